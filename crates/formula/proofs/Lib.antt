@@ -1,0 +1,16 @@
+pub mod Growth
+pub mod Parenthood
+pub mod PartsFirst
+pub mod TableTrees
+pub mod Weighing
+pub mod TreeTruths
+pub mod Appending
+pub mod Arms
+pub mod NormalTrees
+pub mod Places
+pub mod Signs
+pub mod Made
+pub mod Scaled
+pub mod Information
+pub mod Monotony
+pub mod PlainTables

@@ -1,0 +1,13 @@
+pub mod Lefts
+pub mod Complete
+pub mod Sound
+pub mod Prefixes
+pub mod Same
+pub mod Padding
+pub mod Numbering
+pub mod Ready
+pub mod Hopes
+pub mod Climbs
+pub mod Orders
+pub mod Builds
+pub mod Said

@@ -1,0 +1,10 @@
+pub mod Names
+pub mod Grammar
+pub mod Reads
+pub mod Automaton
+pub mod Parser
+pub mod Words
+pub mod Drafts
+pub mod Readings
+pub mod Climbing
+pub mod Laws

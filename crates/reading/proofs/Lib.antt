@@ -1,0 +1,15 @@
+pub mod Tests
+pub mod Decoded
+pub mod Tokens
+pub mod Outcomes
+pub mod Follows
+pub mod Grammatical
+pub mod Meaning
+pub mod Letters
+pub mod Naming
+pub mod Seen
+pub mod Steps
+pub mod Depths
+pub mod Counted
+pub mod Replies
+pub mod Taken

@@ -1,0 +1,12 @@
+pub mod Numbers
+pub mod Bytes
+pub mod Decoding
+pub mod Spells
+pub mod Faults
+pub mod Answers
+pub mod Scan
+pub mod Lexing
+pub mod Lengths
+pub mod Lines
+pub mod Reading
+pub mod Examples
