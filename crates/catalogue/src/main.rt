@@ -7,6 +7,7 @@ use report::Report;
 use std::io;
 use std::io::Read;
 
+mod firing;
 mod lines;
 mod report;
 mod text;

@@ -2,7 +2,11 @@ ghost use mathlib.Core.Path.{_≡_};
 ghost use Prim.Native.Nat.{ℕ};
 ghost use Rattle.std.specs.Of.Vec.{vec-len};
 ghost use Rattle.catalogue.specs.Counts.{took, missed, has};
+ghost use Rattle.catalogue.specs.Firing.{spoken};
 ghost use Rattle.reading.specs.Reading.{reading};
+use crate::firing::firing_truth;
+use crate::text::names_text;
+use crate::text::normal_text;
 use crate::text::readable;
 use crate::text::rule_text;
 use grammar::line::Line;
@@ -54,8 +58,8 @@ impl Report {
             Ok(rule) => {
                 self.taken = self.taken.saturating_add(1);
                 learn(&mut self.names, &rule)?;
-                let text = rule_text(heap, &rule)?;
-                format!(heap, "{number}: {text}\n")
+                let text = taken_text(heap, &rule)?;
+                format!(heap, "{number}: {text}")
             }
             Err(fault) => {
                 self.refused = self.refused.saturating_add(1);
@@ -94,6 +98,26 @@ fn learn(names: &mut Vec<Name>, rule: &Line) -> Result<(), AllocError> {
         }
     }
     Ok(())
+}
+
+/// A truth as it is printed.
+fn word(truth: bool) -> &'static str
+    ensures { λ r. ⌜ now r ≡ spoken truth ⌝ }
+{
+    if truth { "yes" } else { "no" }
+}
+
+/// A rule: as read, in normal form, and its truth when every lot fires alone and when all fire together.
+fn taken_text(heap: Global, rule: &Line) -> Result<String, AllocError> {
+    let names = names_text(heap, rule)?;
+    let text = rule_text(heap, rule, &names)?;
+    let normal = normal_text(heap, &rule.formula().normal(), &names)?;
+    let alone = word(firing_truth(rule.formula(), false));
+    let together = word(firing_truth(rule.formula(), true));
+    format!(
+        heap,
+        "{text}\n  normal form {normal}\n  alone {alone}, together {together}\n"
+    )
 }
 
 /// A refusal: its number, the number it carries, its layer, and the line with a mark under the place.
