@@ -1,0 +1,11 @@
+pub mod Limits
+pub mod Words
+pub mod Searching
+pub mod States
+pub mod Counting
+pub mod Walking
+pub mod Runs
+pub mod Meanings
+pub mod Held
+pub mod Statements
+pub mod Examples
