@@ -170,19 +170,19 @@ from-sides : (before mid late after : Draft) {nd n : ℕ} (k : Token) (l : Level
     → nodes-in after ≡ nodes-in late ++ joinNode k nd n ∷ []
     → nd ≡ top (filled before) a → filled mid ≡ suc nd → n ≡ top (filled mid) b
     → nodes-in after ≡ nodes-in before ++ post (filled before) (numbered (names-in after) (join k a b))
-from-sides before mid late after {nd} {n} k l a b g m1 m2 m3 h1 h2 h3 nd-is mid-is n-is =
+from-sides before mid late after {nd} {n} k l a b g names-1 names-2 names-3 nodes-1 nodes-2 nodes-3 nd-is mid-is n-is =
     let ns = names-in after in
     let holds-a = listed-holds (names-in before) a in
     let same-a : numbered (names-in mid) a ≡ numbered ns a =
-    ap (λ s. numbered s a) m1 ∙ sym (holds-keeps (listed (names-in before) (names-of a)) (names-of b) a holds-a .0)
-    ∙ ap (λ s. numbered s a) (sym (m3 ∙ m2 ∙ ap (λ s. listed s (names-of b)) m1)) in
-    let same-b : numbered (names-in late) b ≡ numbered ns b = ap (λ s. numbered s b) (sym m3) in
+    ap (λ s. numbered s a) names-1 ∙ sym (holds-keeps (listed (names-in before) (names-of a)) (names-of b) a holds-a .0)
+    ∙ ap (λ s. numbered s a) (sym (names-3 ∙ names-2 ∙ ap (λ s. listed s (names-of b)) names-1)) in
+    let same-b : numbered (names-in late) b ≡ numbered ns b = ap (λ s. numbered s b) (sym names-3) in
     let w = shape ns l k g (filled before) a b in
     let top-a : top (filled before) (numbered ns a) ≡ nd = top-numbered ns (filled before) a ∙ sym nd-is in
     let next : suc (top (filled before) (numbered ns a)) ≡ filled mid = ap suc top-a ∙ sym mid-is in
     let top-b : top (filled mid) (numbered ns b) ≡ n = top-numbered ns (filled mid) b ∙ sym n-is in
     let all = glue (nodes-in before) (nodes-in mid) (nodes-in late) (nodes-in after) (post (filled before) (numbered ns a)) (post (filled mid) (numbered ns b)) (joinNode k nd n ∷ [])
-    (h1 ∙ ap (λ s. nodes-in before ++ post (filled before) s) same-a) (h2 ∙ ap (λ s. nodes-in mid ++ post (filled mid) s) same-b) h3 in
+    (nodes-1 ∙ ap (λ s. nodes-in before ++ post (filled before) s) same-a) (nodes-2 ∙ ap (λ s. nodes-in mid ++ post (filled mid) s) same-b) nodes-3 in
     all
     ∙ sym (ap (λ s. nodes-in before ++ s) (w .nodes
     ∙ ap (λ i. post (filled before) (numbered ns a) ++ (post i (numbered ns b) ++ joinNode k (top (filled before) (numbered ns a)) (top i (numbered ns b)) ∷ [])) next
