@@ -70,7 +70,7 @@ impl Report {
     }
 
     /// The counts at the end.
-    pub fn summary(&self, heap: Global) -> Result<String, AllocError> {
+    pub(crate) fn summary(&self, heap: Global) -> Result<String, AllocError> {
         let taken = self.taken;
         let refused = self.refused;
         let names = self.names.len();

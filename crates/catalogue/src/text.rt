@@ -8,7 +8,7 @@ use std::alloc::AllocError;
 use std::alloc::Global;
 
 /// Bytes as text, one character for each: a byte that cannot be shown is a dot, so that places stay in line.
-pub fn readable(heap: Global, bytes: &[u8]) -> Result<String, AllocError> {
+pub(crate) fn readable(heap: Global, bytes: &[u8]) -> Result<String, AllocError> {
     let mut shown = String::new(heap);
     for b in bytes {
         let c = if matches!(*b, 32..=126) {
@@ -33,7 +33,7 @@ fn name_text(heap: Global, named: &Named) -> Result<String, AllocError> {
 }
 
 /// The names of a line, in their order.
-pub fn names_text(heap: Global, line: &Line) -> Result<Vec<String>, AllocError> {
+pub(crate) fn names_text(heap: Global, line: &Line) -> Result<Vec<String>, AllocError> {
     let mut names = Vec::new(heap);
     for named in line.names() {
         names.push(name_text(heap, named)?)?;
@@ -104,7 +104,7 @@ fn whole(heap: Global, mut texts: Vec<String>) -> String {
 }
 
 /// The rule that a line says, with all its parentheses.
-pub fn rule_text(heap: Global, line: &Line, names: &Vec<String>) -> Result<String, AllocError> {
+pub(crate) fn rule_text(heap: Global, line: &Line, names: &Vec<String>) -> Result<String, AllocError> {
     let mut texts = Vec::new(heap);
     for node in line.formula().nodes() {
         let leaf = match *node {
@@ -118,7 +118,7 @@ pub fn rule_text(heap: Global, line: &Line, names: &Vec<String>) -> Result<Strin
 }
 
 /// A normal form, with all its parentheses.
-pub fn normal_text(
+pub(crate) fn normal_text(
     heap: Global,
     normal: &NormalForm,
     names: &Vec<String>,
