@@ -104,7 +104,11 @@ fn whole(heap: Global, mut texts: Vec<String>) -> String {
 }
 
 /// The rule that a line says, with all its parentheses.
-pub(crate) fn rule_text(heap: Global, line: &Line, names: &Vec<String>) -> Result<String, AllocError> {
+pub(crate) fn rule_text(
+    heap: Global,
+    line: &Line,
+    names: &Vec<String>,
+) -> Result<String, AllocError> {
     let mut texts = Vec::new(heap);
     for node in line.formula().nodes() {
         let leaf = match *node {

@@ -1,0 +1,16 @@
+pub mod Altered
+pub mod Numbered
+pub mod LotNumbers
+pub mod Refusals
+pub mod AddedLots
+pub mod KnownLots
+pub mod ApartLots
+pub mod LeafTests
+pub mod AmongLots
+pub mod Renumbered
+pub mod PairTruths
+pub mod KeptRules
+pub mod MarkedRows
+pub mod PutBack
+pub mod TakenLines
+pub mod StruckRules
