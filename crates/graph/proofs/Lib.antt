@@ -16,10 +16,12 @@ pub mod Closing
 pub mod Filling
 pub mod Links
 pub mod Picking
+pub mod Flags
+pub mod Choosing
+pub mod Degrees
 pub mod Sights
 pub mod Triangles
 pub mod LinkPaths
-pub mod Standing
 pub mod Numbering
 pub mod Records
 pub mod Writing

@@ -3,12 +3,12 @@ use mathlib.Core.Path.{_≡_, refl, sym, ap, _∙_, subst}
 use mathlib.Core.Bool.{Bool, true, false, not, _&&_}
 use mathlib.Core.List.{List, [], _∷_}
 use mathlib.Core.Logic.{_≢_, ⊎-elim}
-use Prim.Native.Nat.{ℕ, zero, suc, _*_, _<_}
+use Prim.Native.Nat.{ℕ, zero, suc, _*_, _<_, _≤_}
 use native.Mathlib.Omega.{arith}
 use lib.Dec.{eqb, ltb}
 use lib.ListN.{length, getD, drop, length-append, length-drop}
-use Rattle.std.proofs.shelf.Lists.{getD-append-left, drop-at}
-use Rattle.std.proofs.shelf.Tests.{not-true, not-from-false, cases-order, eqb-false, ne-eqb, lt-ltb, le-ltb, cond-true, cond-false, and-parts, and-from}
+use Rattle.std.proofs.shelf.Lists.{getD-append-left, getD-past, drop-at}
+use Rattle.std.proofs.shelf.Tests.{not-true, not-from-false, cases-order, eqb-false, ne-eqb, lt-ltb, le-ltb, cond-true, cond-false, and-parts, and-from, and-right}
 use Rattle.formula.specs.declared.node.Pair.{Pair}
 use Rattle.formula.specs.Tree.{Tree}
 use Rattle.graph.specs.declared.link.Link.{Link}
@@ -137,3 +137,7 @@ module _ (n : ℕ) (fs : List (Tree (Pair ℕ))) (pick : Pick) (old : List Link)
 
 pub records-say : Records-say
 records-say n fs g pick old = says n fs pick old g
+
+-- a pair whose record lies behind the table has no flag that the empty record lacks
+pub past-table : (n : ℕ) (flag : Link → Bool) (ls : List Link) (a b : ℕ) → flag no-link ≡ false → length ls ≤ place-of a b → flagged n flag ls a b ≡ false
+past-table n flag ls a b e h = and-right (is-lot n a && is-lot n b) _ (and-right (not (eqb a b)) _ (ap flag (getD-past ls (place-of a b) no-link h) ∙ e))

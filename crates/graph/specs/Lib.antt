@@ -20,6 +20,7 @@ pub mod Pickers
 pub mod Filled
 pub mod FillingLaws
 pub mod Standing
+pub mod Standings
 pub mod StandingLaws
 pub mod Triangles
 pub mod TriangleLaws

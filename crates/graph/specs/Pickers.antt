@@ -1,7 +1,7 @@
 -- The two pickers (executable). Rests on Filling.
 use mathlib.Core.Bool.{Bool, cond}
 use mathlib.Core.List.{List, [], _∷_}
-use Prim.Native.Nat.{ℕ, suc}
+use Prim.Native.Nat.{ℕ, zero, suc}
 use lib.Dec.{leb}
 use Rattle.graph.specs.Filling.{Pick}
 
@@ -18,6 +18,11 @@ degree e v (x ∷ xs) = cond (e v x) (suc (degree e v xs)) (degree e v xs)
 -- the better of two lots by a figure d: the first, unless the second has a lower figure
 abbrev pub better : (ℕ → ℕ) → ℕ → ℕ → ℕ
 better d best x = cond (leb (d best) (d x)) best x
+
+-- the same where there may be none (0) so far
+abbrev pub improved : (ℕ → ℕ) → ℕ → ℕ → ℕ
+improved d zero x = x
+improved d (suc b) x = better d (suc b) x
 
 -- the best of a lot and those of a list
 abbrev pub fewest : (ℕ → ℕ) → ℕ → List ℕ → ℕ

@@ -1,4 +1,4 @@
-use Rattle.graph.proofs.Standing.{flags-stand}
+use Rattle.graph.proofs.Flags.{flags-stand}
 use Rattle.graph.proofs.laws.flags_stand.Needs as need
 
 pub returns : need.returns
