@@ -3,6 +3,8 @@
 //! For a line that is taken it prints the rule as read, with all its parentheses and with decoded names;
 //! for one that is refused the number, the carried number and the layer of the refusal, and the line with
 //! a mark under the place. Any bytes may come.
+#![tactic(auto)]
+
 use lines::first_line;
 use report::Report;
 use std::io;

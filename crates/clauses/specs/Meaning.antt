@@ -1,5 +1,5 @@
 -- What clauses ask of an assignment to variables 1 to `top`. Rests on nothing.
-use Rattle.std.specs.Prelude.{◌≡◌, ℕ, ◌+◌, ◌-◌, ◌*◌, ◌≤◌, Bool, true, false, cond, ◌⊎◌, List, length, slice_index, slice_index_or}
+use Rattle.std.specs.Prelude.{◌≡◌, ℕ, ◌+◌, ◌-◌, ◌*◌, ◌≤◌, Bool, false, cond, ◌⊎◌, List, length, slice_index, slice_index_or}
 
 -- the values of the variables, which count from 1
 abbrev pub Assignment : Type 0

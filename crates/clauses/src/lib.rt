@@ -1,5 +1,7 @@
 // Codes and clauses. Code 2v says that variable v is true, 2v + 1 that it is false; variables count from 1.
 // Three codes in a row of a flat slice are a clause, and a clause cut short at the end is not read.
+#![tactic(auto)]
+
 ghost use Rattle.std.specs.Prelude.{◌≡◌, ◌+◌, ◌*◌, ◌≤◌, length};
 ghost use Rattle.clauses.specs.Falsity.{false_code, false_clause, first_false_row};
 ghost use Rattle.clauses.specs.Statements.{Told, ToldOfAll};

@@ -1,8 +1,8 @@
 -- A table of literals that grows at its end, by the normal form of a tree.
-use Rattle.std.proofs.Common.{◌≡◌, ℕ, zero, suc, ◌+◌, ◌<◌, ◌≤◌, Bool, true, false, List, [], ◌∷◌, ◌++◌, length, get_or, sym, refl, ap, ◌∙◌, subst, arith, length-append}
+use Rattle.std.proofs.Common.{◌≡◌, ℕ, suc, ◌+◌, ◌<◌, ◌≤◌, Bool, true, false, List, [], ◌∷◌, ◌++◌, length, get_or, sym, refl, ap, ◌∙◌, arith, length-append}
 use Rattle.std.proofs.lemmas.List.{get_or_default, append_assoc}
 use Rattle.formula.specs.declared.node.Node.{Node}
-use Rattle.formula.specs.declared.node.Node.TheVariants.{Leaf, And, Or}
+use Rattle.formula.specs.declared.node.Node.TheVariants.{Leaf}
 use Rattle.formula.specs.declared.node.Pair.{Pair}
 use Rattle.formula.specs.Evaluation.{all_below, parts_first}
 use Rattle.formula.specs.LiteralTable.{joined_node}

@@ -6,7 +6,7 @@ use Rattle.formula.specs.declared.node.Pair.{Pair}
 use Rattle.formula.specs.Evaluation.{parts_first}
 use Rattle.formula.specs.Normal.{nnf, joined}
 use Rattle.formula.specs.Table.{node_tree}
-use Rattle.formula.specs.Tree.{Tree, leaf}
+use Rattle.formula.specs.Tree.{leaf}
 use Rattle.formula.proofs.Appending.{no_node, tree_here, parts_here}
 use Rattle.formula.proofs.PartsFirst.{below_one, below_two}
 

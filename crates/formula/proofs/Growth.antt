@@ -1,8 +1,8 @@
 -- A table read back: the trees of the table of a tree.
-use Rattle.std.proofs.Common.{◌≡◌, ℕ, zero, suc, ◌+◌, ◌-◌, ◌<◌, List, [], ◌∷◌, ◌++◌, length, get_or, sym, refl, ap, ◌∙◌, append_assoc, append-nil, arith, length-append}
+use Rattle.std.proofs.Common.{◌≡◌, ℕ, suc, ◌+◌, ◌-◌, ◌<◌, List, [], ◌∷◌, ◌++◌, length, get_or, sym, refl, ap, ◌∙◌, append_assoc, append-nil, arith, length-append}
 use Rattle.std.proofs.lemmas.List.{get_or_append_left, get_or_at}
 use Rattle.formula.specs.declared.node.Node.{Node}
-use Rattle.formula.specs.declared.node.Node.TheVariants.{Leaf, Not, And, Or, Then}
+use Rattle.formula.specs.declared.node.Node.TheVariants.{Not}
 use Rattle.formula.specs.declared.node.Pair.{Pair}
 use Rattle.formula.specs.Tree.{Tree, leaf, not, and, or, then, size}
 use Rattle.formula.specs.Table.{top, post, shape, grown, trees, blank, tree_of}

@@ -1,5 +1,5 @@
 -- In the scale of three, more decided leaves decide no node otherwise, and a decided node is right in every choice.
-use Rattle.std.proofs.Common.{◌≡◌, Bool, true, false, not as flip, ◌&&◌, ◌||◌, ◌⊎◌, sym, refl, ap, ◌∙◌, subst, ap₂, inl, inr, ⊎_elim}
+use Rattle.std.proofs.Common.{◌≡◌, Bool, true, false, not as flip, ◌&&◌, ◌||◌, sym, refl, ap, ◌∙◌, subst, ap₂, inl, inr, ⊎_elim}
 use Rattle.std.proofs.lemmas.Bool.{and_right, or_right}
 use Rattle.formula.specs.declared.scale.Three.{Three}
 use Rattle.formula.specs.declared.scale.Three.TheVariants.{Yes, No, Open}

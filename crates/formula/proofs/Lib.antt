@@ -10,7 +10,6 @@ pub mod NormalTrees
 pub mod Places
 pub mod Signs
 pub mod Made
-pub mod Scaled
 pub mod Information
 pub mod Monotony
 pub mod PlainTables

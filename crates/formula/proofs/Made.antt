@@ -12,7 +12,7 @@ use Rattle.formula.specs.Tree.{Tree, size, spans}
 use Rattle.formula.proofs.Growth.{last_tree, post_length}
 use Rattle.formula.proofs.NormalTrees.{nnf_normal, nnf_pairs, nnf_words, nnf_size}
 use Rattle.formula.proofs.Places.{nnf_places}
-use Rattle.formula.proofs.Scaled.{two_laws, three_laws}
+use Rattle.formula.specs.Scaled.{two_laws, three_laws}
 use Rattle.formula.proofs.Signs.{nnf_truth}
 
 -- the top node of a table, by a copy of it and a count

@@ -1,10 +1,10 @@
 -- In the table of a tree parts stand before the whole, and every node but the top one is named once.
-use Rattle.std.proofs.Common.{◌≡◌, ℕ, zero, suc, ◌+◌, ◌<◌, ◌≤◌, true, cond, ◌&&◌, eqb, ltb, leb, List, [], ◌∷◌, ◌++◌, map, length, get_or, sym, refl, ap, ◌∙◌, subst, ap₂, arith}
+use Rattle.std.proofs.Common.{◌≡◌, ℕ, zero, suc, ◌+◌, ◌<◌, ◌≤◌, true, cond, ◌&&◌, ltb, leb, List, [], ◌∷◌, ◌++◌, length, refl, ap, ◌∙◌, subst, ap₂, arith}
 use Rattle.std.proofs.lemmas.Bool.{and_from}
 use Rattle.std.proofs.lemmas.Bool.Decides.{nat_tests}
 use Rattle.formula.specs.declared.node.Node.{Node}
-use Rattle.formula.specs.declared.node.Node.TheVariants.{Leaf, Not, And, Or, Then}
-use Rattle.formula.specs.Tree.{Tree, leaf, not, and, or, then, size}
+use Rattle.formula.specs.declared.node.Node.TheVariants.{Not}
+use Rattle.formula.specs.Tree.{Tree, leaf, not, and, or, then}
 use Rattle.formula.specs.Table.{top, post}
 use Rattle.formula.specs.Parts.{parts, parts_at, AllBelow, times, mentions}
 use Rattle.formula.specs.TableLaws.{OneTree}

@@ -1,5 +1,5 @@
 -- The words of the normal form stand in the line as those of the formula.
-use Rattle.std.proofs.Common.{◌≡◌, ℕ, suc, ◌≤◌, Bool, true, false, not as flip, ◌&&◌, ltb, leb, refl, arith}
+use Rattle.std.proofs.Common.{◌≡◌, ℕ, suc, ◌≤◌, Bool, true, false, not as flip, ◌&&◌, ltb, leb, arith}
 use Rattle.std.proofs.lemmas.Bool.{and_from, and_parts, leb-true, le-leb, ltb-true, lt-ltb}
 use Rattle.formula.specs.declared.literal.Literal.{Literal}
 use Rattle.formula.specs.declared.node.Pair.{Pair}

@@ -1,5 +1,5 @@
 -- The trees of a table in which parts stand before the whole, node by node.
-use Rattle.std.proofs.Common.{◌≡◌, ℕ, zero, suc, ◌+◌, ◌<◌, Bool, true, List, [], ◌∷◌, ◌++◌, length, get_or, sym, refl, ap, ◌∙◌, subst, ap₂, arith, length-append}
+use Rattle.std.proofs.Common.{◌≡◌, ℕ, zero, suc, ◌+◌, ◌<◌, true, List, [], ◌∷◌, ◌++◌, length, get_or, sym, refl, ap, ◌∙◌, ap₂, arith, length-append}
 use Rattle.std.proofs.lemmas.List.{get_or_append_left, get_or_push}
 use Rattle.std.proofs.lemmas.Bool.{and_parts}
 use Rattle.formula.specs.declared.node.Node.{Node}
@@ -7,7 +7,7 @@ use Rattle.formula.specs.declared.node.Node.TheVariants.{Leaf, Not, And, Or, The
 use Rattle.formula.specs.Evaluation.{all_below, parts_first}
 use Rattle.formula.specs.Parts.{parts}
 use Rattle.formula.specs.Table.{shape, grown, trees}
-use Rattle.formula.specs.Tree.{Tree, leaf, not, and, or, then}
+use Rattle.formula.specs.Tree.{Tree, not, and, or, then}
 use Rattle.formula.proofs.PartsFirst.{below_one, below_two}
 
 module _ {A : Type 0} (d : Tree A) where

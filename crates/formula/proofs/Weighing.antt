@@ -1,13 +1,13 @@
 -- The truths of the nodes of a table: each from those of its parts.
-use Rattle.std.proofs.Common.{◌≡◌, ℕ, zero, suc, ◌+◌, ◌<◌, ◌≤◌, Bool, true, ◌&&◌, List, [], ◌∷◌, ◌++◌, map, length, get_or, take, drop, set, sym, refl, ap, ◌∙◌, ap₂, arith}
+use Rattle.std.proofs.Common.{◌≡◌, ℕ, zero, suc, ◌+◌, ◌<◌, ◌≤◌, true, ◌&&◌, List, [], ◌∷◌, ◌++◌, length, get_or, take, drop, set, sym, refl, ap, ◌∙◌, ap₂, arith}
 use Rattle.std.proofs.lemmas.List.{get_or-map, length-map, get_or_append_left, get_or-take, length-take-le, set_at, drop_more, take_all, take_more, append_assoc, get_or_read, get_or_default}
 use Rattle.formula.specs.declared.node.Node.{Node}
 use Rattle.formula.specs.declared.node.Node.TheVariants.{Leaf, Not, And, Or, Then}
 use Rattle.formula.specs.Evaluation.{numbered, numbered_from, index_trees, node_truths, all_below, parts_first, weighed}
 use Rattle.formula.specs.Ops.{Ops}
 use Rattle.formula.specs.Parts.{parts}
-use Rattle.formula.specs.Table.{shape, trees}
-use Rattle.formula.specs.Tree.{Tree, leaf, not, and, or, then}
+use Rattle.formula.specs.Table.{shape}
+use Rattle.formula.specs.Tree.{Tree, leaf}
 use Rattle.formula.specs.Truth.{truth}
 use Rattle.formula.proofs.PartsFirst.{below_one, below_two, first_at}
 use Rattle.formula.proofs.TableTrees.{tree_step, grown_length}

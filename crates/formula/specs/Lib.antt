@@ -17,3 +17,4 @@ pub mod TruthLaws
 pub mod TruthTables
 pub mod NormalLaws
 pub mod Within
+pub mod Scaled

@@ -1,5 +1,5 @@
 -- The two scales: yes and no; yes, no and open. Rests on Ops.
-use Rattle.std.specs.Prelude.{Bool, true, false, not as flip, ◌&&◌, ◌||◌}
+use Rattle.std.specs.Prelude.{Bool, false, not as flip, ◌&&◌, ◌||◌}
 use Rattle.formula.specs.Ops.{Ops}
 use Rattle.formula.specs.declared.scale.Three.{Three}
 use Rattle.formula.specs.declared.scale.Three.TheVariants.{Yes, No, Open}

@@ -1,5 +1,5 @@
 -- The table of a tree, its parts before the whole, and the trees of a table. Rests on Tree.
-use Rattle.std.specs.Prelude.{◌≡◌, ℕ, suc, ◌-◌, List, [], ◌∷◌, ◌++◌, length, slice_index_or}
+use Rattle.std.specs.Prelude.{ℕ, suc, ◌-◌, List, [], ◌∷◌, ◌++◌, length, slice_index_or}
 use Rattle.formula.specs.declared.node.Node.{Node}
 use Rattle.formula.specs.declared.node.Node.TheVariants as node
 use Rattle.formula.specs.declared.node.Pair.{Pair}

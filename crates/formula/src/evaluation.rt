@@ -34,7 +34,7 @@ fn has_parts_first<L: Copy>(nodes: &[Node<L>]) -> bool
 // The truth of one node, from that of its leaf and those of the nodes before it.
 fn weigh<S: Scale + Copy, L: Copy>(node: Node<L>, leaf: S, truths: &[S]) -> S
     requires { all_below (length truths.now) (parts node) ≡ true }
-    ensures { result ≡ weighed ops leaf (λ k. slice_index_or truths.now k blank) node }
+    ensures { result ≡ weighed S.ops leaf (λ k. slice_index_or truths.now k S.blank) node }
 {
     match node {
         Node::Leaf(_) => leaf,
@@ -50,7 +50,7 @@ fn fill<S: Scale + Copy, L: Copy>(nodes: &[Node<L>], leaves: &[S], truths: &mut 
     requires first { parts_first 0 nodes.now ≡ true }
     requires known { length nodes.now ≤ length leaves.now }
     requires room { length nodes.now ≤ length truths.old }
-    ensures { truths.new ≡ node_truths ops blank nodes.now leaves.now ++ drop (length nodes.now) truths.old }
+    ensures { truths.new ≡ node_truths S.ops S.blank nodes.now leaves.now ++ drop (length nodes.now) truths.old }
 {
     for i in 0..nodes.len() {
         truths[i] = weigh(nodes[i], leaves[i], truths);
@@ -70,8 +70,8 @@ fn is_ready<L: Copy>(nodes: &[Node<L>], leaves: usize, room: usize) -> bool
 /// stand before the whole, nothing is changed.
 pub fn evaluate<S: Scale + Copy, L: Copy>(nodes: &[Node<L>], leaves: &[S], truths: &mut [S]) -> bool
     ensures answer { result ≡ ready nodes.now (length leaves.now) (length truths.old) }
-    ensures after { truths.new ≡ evaluated ops blank nodes.now leaves.now truths.old }
-    ensures trees { result ≡ true → TruthsOfTrees ops blank nodes.now leaves.now truths.new }
+    ensures after { truths.new ≡ evaluated S.ops S.blank nodes.now leaves.now truths.old }
+    ensures trees { result ≡ true → TruthsOfTrees S.ops S.blank nodes.now leaves.now truths.new }
 {
     let can = is_ready(nodes, leaves.len(), truths.len());
     if can {

@@ -1,5 +1,7 @@
 //! Formulas over pairs: tables of nodes in which parts stand before the whole, their truth in a
 //! scale, and their negation normal form.
+#![tactic(auto)]
+
 pub mod bounded;
 pub mod evaluation;
 pub mod formula;

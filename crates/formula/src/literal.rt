@@ -18,9 +18,9 @@ impl Literal {
     /// Its truth, from that of its pair. With these truths at its leaves a normal form has the truth
     /// of its formula, in every scale.
     pub fn truth<S: Scale>(self, pair: S) -> S
-        ensures value { result ≡ signed ops self.positive pair }
-        ensures same { (t : Tree (PairOf ℕ)) → SameTruth ops t (nnf true t) }
-        ensures implication { ThenIsOr ops }
+        ensures value { result ≡ signed S.ops self.positive pair }
+        ensures same { (t : Tree (PairOf ℕ)) → SameTruth S.ops t (nnf true t) }
+        ensures implication { ThenIsOr S.ops }
     {
         if self.positive { pair } else { pair.opposite() }
     }

@@ -3,10 +3,10 @@ ghost use Rattle.formula.specs.declared.literal.Literal.{Literal};
 ghost use Rattle.formula.specs.declared.node.Pair.{Pair};
 ghost use Rattle.formula.specs.Decided.{known, decided};
 ghost use Rattle.formula.specs.Ops.{Ops};
+ghost use Rattle.formula.specs.Scaled.{two_laws, three_laws};
 ghost use Rattle.formula.specs.Scales.{two, two_blank, three, three_blank};
 ghost use Rattle.formula.specs.TruthLaws.{Informed};
 ghost use Rattle.formula.specs.TruthTables.{TruthTables};
-ghost use Rattle.std.proofs.Common.{rules};
 
 /// A scale of truth: what its values come to under `and`, `or` and `not`.
 pub trait Scale: Sized {
@@ -66,9 +66,9 @@ impl Scale for bool {
 
     ghost blank = { two_blank };
 
-    ghost twice = { Prim.search rules };
+    ghost twice = { two_laws.twice };
 
-    ghost dual = { Prim.search rules };
+    ghost dual = { two_laws.dual };
 
     fn both(self, other: bool) -> bool {
         self & other
@@ -88,9 +88,9 @@ impl Scale for Three {
 
     ghost blank = { three_blank };
 
-    ghost twice = { Prim.search rules };
+    ghost twice = { three_laws.twice };
 
-    ghost dual = { Prim.search rules };
+    ghost dual = { three_laws.dual };
 
     fn both(self, other: Three) -> Three {
         match (self, other) {

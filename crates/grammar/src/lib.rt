@@ -1,4 +1,6 @@
 //! Rules over names, read from tokens.
+#![tactic(auto)]
+
 pub mod build;
 mod climb;
 mod draft;

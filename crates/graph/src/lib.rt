@@ -1,4 +1,6 @@
 //! The equality graph of formulas over lots: marks by rounds, components, filling and numbering.
+#![tactic(auto)]
+
 pub mod fewest;
 pub mod laws;
 pub mod link;

@@ -1,4 +1,6 @@
 //! Lines of bytes: a line is ended by byte 10 or by the end of the input.
+#![tactic(auto)]
+
 ghost use Rattle.std.specs.Prelude.{◌≡◌, ◌+◌, ◌<◌, ◌≤◌, length, take, drop};
 ghost use Rattle.lines.specs.Lines.{length_of_line};
 

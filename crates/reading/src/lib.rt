@@ -1,4 +1,6 @@
 //! Lines of bytes, read as rules over names.
+#![tactic(auto)]
+
 pub mod examples;
 pub mod fault;
 mod lexer;

@@ -1,4 +1,6 @@
 // Searchers: what one is, by a trait; the counter and the walker; and a run of any of them with a budget of steps.
+#![tactic(auto)]
+
 pub mod counter;
 pub mod examples;
 pub mod limits;

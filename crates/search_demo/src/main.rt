@@ -4,6 +4,8 @@
 // variables there are, the second the budget of steps, and the others are codes, three to a clause: 2v says that
 // variable v is true, 2v + 1 that it is false. `2 100 5 2 3 4 0 0` has two variables and two clauses.
 // A line that is no such thing prints `?`. Any bytes may come.
+#![tactic(auto)]
+
 mod digits;
 mod reading;
 mod showing;

@@ -11,14 +11,14 @@ loop-row-init c = first_none _
 pub loop-row-preserved : goal.loop-row-preserved
 loop-row-preserved c =
     let f = false_clause c.args.variables c.args.values.now c.args.codes.now in
-    first_more f c.loop-row.row c.loop-row.invariant ∙ cond-false _ _ _ (sym c.if-clause-is-false.ensures)
+    first_more f c.loop-row.row c.loop-row.invariant ∙ cond-false _ _ _ (sym c.if-clause_is_false.ensures)
 
-pub returns-then-clause-is-false : goal.returns-then-clause-is-false
+pub returns-then-clause_is_false : goal.returns-then-clause_is_false
 unfolding first_false_row
-returns-then-clause-is-false c =
+returns-then-clause_is_false c =
     let f = false_clause c.args.variables c.args.values.now c.args.codes.now in
     let is : Some c.loop-row.row ≡ first_false_row c.args.variables c.args.values.now c.args.codes.now =
-    sym (first_at f c.loop-row.row _ c.loop-row-test.true c.loop-row.invariant (sym c.if-clause-is-false.ensures)) in
+    sym (first_at f c.loop-row.row _ c.loop-row-test.true c.loop-row.invariant (sym c.if-clause_is_false.ensures)) in
     record { value = is; told = told_as _ _ _ _ is; told_of_all = told_all_as _ _ _ _ is }
 
 pub returns : goal.returns

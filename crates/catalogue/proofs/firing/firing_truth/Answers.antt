@@ -15,8 +15,8 @@ ready_for : (ns : List (Node (Pair ℕ))) (leaves room : ℕ) → length ns ≤ 
 ready_for ns leaves room h l f =
     ap (λ x. (x && leb (length ns) room) && parts_first 0 ns) (le-leb (length ns) leaves h) ∙ ap (λ x. x && parts_first 0 ns) (le-leb (length ns) room l) ∙ f
 
-pub leaf-truths-leaves-requires : goal.leaf-truths-leaves-requires
-leaf-truths-leaves-requires c = record { few = omega (arith, ap length c.nodes.ensures.items, length-take c.args.formula.now.count c.args.formula.now.nodes, c.args.formula.now.few) }
+pub leaf_truths-leaves-requires : goal.leaf_truths-leaves-requires
+leaf_truths-leaves-requires c = record { few = omega (arith, ap length c.nodes.ensures.items, length-take c.args.formula.now.count c.args.formula.now.nodes, c.args.formula.now.few) }
 
 pub returns : goal.returns
 returns c =
@@ -24,10 +24,10 @@ returns c =
     let same : c.nodes.result.now ≡ ns = c.nodes.ensures.items ∙ sym c.nodes-2.ensures.items in
     let size : length ns ≡ c.len.result = ap length c.nodes-2.ensures.items ∙ sym c.len.ensures.count in
     let b = c.len.ensures.bounds in
-    let known : length ns ≤ length c.leaf-truths-leaves.result = omega (arith, c.leaf-truths-leaves.ensures.wide) in
+    let known : length ns ≤ length c.leaf_truths-leaves.result = omega (arith, c.leaf_truths-leaves.ensures.wide) in
     let room : length ns ≤ 32 = omega arith in
-    let on : c.evaluate.result ≡ true = c.evaluate.ensures.answer ∙ ready_for ns (length c.leaf-truths-leaves.result) 32 known room c.nodes-2.ensures.first in
-    let leaves : LeafTruths (fires c.args.all) false ns c.leaf-truths-leaves.result = subst (λ (s : List (Node (Pair ℕ))). LeafTruths (fires c.args.all) false s c.leaf-truths-leaves.result) same c.leaf-truths-leaves.ensures.leaves in
+    let on : c.evaluate.result ≡ true = c.evaluate.ensures.answer ∙ ready_for ns (length c.leaf_truths-leaves.result) 32 known room c.nodes-2.ensures.first in
+    let leaves : LeafTruths (fires c.args.all) false ns c.leaf_truths-leaves.result = subst (λ (s : List (Node (Pair ℕ))). LeafTruths (fires c.args.all) false s c.leaf_truths-leaves.result) same c.leaf_truths-leaves.ensures.leaves in
     c.evaluate.ensures.trees on (fires c.args.all) leaves blank (c.len.result - 1) (omega arith)
     ∙ ap (λ i. truth two (fires c.args.all) (get_or (trees blank ns) i blank)) (let z : c.len.result - 1 ≡ length ns - 1 = omega arith in z)
     ∙ ap (λ (s : List (Node (Pair ℕ))). truth two (fires c.args.all) (tree_of s)) c.nodes-2.ensures.items

@@ -14,11 +14,11 @@ loop-i-preserved c =
     let ns = c.args.nodes.now in (
       (λ k h d. ⊎_elim
           (λ e.
-          ap (λ j. get_or (set ls i c.pair-truth.result) j false) e ∙ get_or-set_same ls i c.pair-truth.result false (omega (arith, c.loop-i.invariant.1)) ∙ c.pair-truth.ensures
+          ap (λ j. get_or (set ls i c.pair_truth.result) j false) e ∙ get_or-set_same ls i c.pair_truth.result false (omega (arith, c.loop-i.invariant.1)) ∙ c.pair_truth.ensures
           ∙ ap (leaf_truth c.args.all) (get_or_default ns i _ d (omega arith) ∙ ap (λ j. get_or ns j d) (sym e)))
-          (λ ne. get_or-set_other ls i k c.pair-truth.result false ne ∙ c.loop-i.invariant.0 k (omega arith) d)
+          (λ ne. get_or-set_other ls i k c.pair_truth.result false ne ∙ c.loop-i.invariant.0 k (omega arith) d)
           (cases_eq k i)),
-      length-set ls i c.pair-truth.result ∙ c.loop-i.invariant.1,
+      length-set ls i c.pair_truth.result ∙ c.loop-i.invariant.1,
     )
 
 pub returns : goal.returns

@@ -5,11 +5,11 @@ pub returns-then-can : goal.returns-then-can
 returns-then-can g c =
     let s = g.S.Scale in
     record {
-      answer = c.is-ready-can.ensures;
+      answer = c.is_ready-can.ensures;
       after =
           evaluated_all s.ops s.blank c.args.nodes.now c.args.leaves.now c.args.truths.now c.fill.new.truths
-          c.is-ready-can.result c.is-ready-can.ensures c.if-can.true c.fill.ensures;
+          c.is_ready-can.result c.is_ready-can.ensures c.if-can.true c.fill.ensures;
       trees = λ on.
           evaluated_trees s.ops s.blank c.args.nodes.now c.args.leaves.now c.args.truths.now c.fill.new.truths
-          c.is-ready-can.result c.is-ready-can.ensures on c.fill.ensures;
+          c.is_ready-can.result c.is_ready-can.ensures on c.fill.ensures;
     }

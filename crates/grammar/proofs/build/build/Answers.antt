@@ -13,8 +13,8 @@ new-requires c =
     let b = built c.args.tokens.now c.climb.result c.new-draft.result c.climb.new.out c.requires.rule c.requires.placed c.new-draft.ensures.nodes c.new-draft.ensures.names c.climb.ensures in
     record { whole = b.whole; in_order = b.in_order }
 
-pub invariant-of-result : goal.invariant-of-result
-invariant-of-result c =
+pub invariant_of-result : goal.invariant_of-result
+invariant_of-result c =
     let b = built c.args.tokens.now c.climb.result c.new-draft.result c.climb.new.out c.requires.rule c.requires.placed c.new-draft.ensures.nodes c.new-draft.ensures.names c.climb.ensures in
     (ap (λ (ns : List (Node (Pair ℕ))). within (length (held c.climb.new.out.names)) (tree_of ns)) c.new.ensures ∙ b.named, tt)
 

@@ -12,5 +12,5 @@ returns-in-38 c =
 pub returns-in-len1-up : goal.returns-in-len1-up
 returns-in-len1-up c =
     let a : amp c.args.rest.now ≡ false = search rules in
-    letter_one c.args.rest.now (search rules) a (sym c.if-in-name.ensures)
+    letter_one c.args.rest.now (search rules) a (sym c.if-in_name.ensures)
     ∙ ap (λ (s : List ℕ). Some (get_or c.args.rest.now 0 0, s)) (sym (take_rest c.args.rest.now 1))

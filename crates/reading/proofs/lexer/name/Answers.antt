@@ -14,5 +14,5 @@ loop-b-preserved c =
 
 pub returns : goal.returns
 returns c =
-    let e = ends c.loop-b.invariant c.in-default.ensures in
+    let e = ends c.loop-b.invariant c.in_default.ensures in
     record { bytes = e.0; decoded = e.1; written = omega (arith, e.2) }

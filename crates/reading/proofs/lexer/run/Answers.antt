@@ -4,12 +4,12 @@ use Rattle.reading.proofs.lexer.run.Goals as goal
 
 pub loop-n-preserved : goal.loop-n-preserved
 loop-n-preserved c =
-    let s = run_step c.args.rest.now c.loop-n.n c.loop-n-test.true (sym c.if-is-lower.ensures) in
+    let s = run_step c.args.rest.now c.loop-n.n c.loop-n-test.true (sym c.if-is_lower.ensures) in
     (omega arith, omega arith)
 
-pub returns-else-is-lower : goal.returns-else-is-lower
-returns-else-is-lower c =
-    let s = run_stop c.args.rest.now c.loop-n.n c.loop-n-test.true (sym c.if-is-lower.ensures) in
+pub returns-else-is_lower : goal.returns-else-is_lower
+returns-else-is_lower c =
+    let s = run_stop c.args.rest.now c.loop-n.n c.loop-n-test.true (sym c.if-is_lower.ensures) in
     record { value = omega arith; within = omega arith }
 
 pub returns-after-loop-n : goal.returns-after-loop-n

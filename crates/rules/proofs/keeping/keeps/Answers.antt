@@ -12,8 +12,8 @@ use Rattle.rules.specs.Leaves.{pair_among}
 use Rattle.rules.proofs.LeafTests.{formula_leaves}
 use Rattle.rules.proofs.keeping.keeps.Goals as goal
 
-pub pair-truths-leaves-requires : goal.pair-truths-leaves-requires
-pair-truths-leaves-requires c =
+pub pair_truths-leaves-requires : goal.pair_truths-leaves-requires
+pair_truths-leaves-requires c =
     let f = c.args.formula.now in
     let size = ap length c.nodes-nodes.ensures.items in
     record {
@@ -29,10 +29,10 @@ returns c =
     let size : length ns ≡ length (nodes_of f) = ap length c.nodes-nodes.ensures.items in
     let some : 1 ≤ length ns = omega (arith, c.len-last.ensures.bounds.0, c.len-last.ensures.count) in
     let most : length ns ≤ 32 = omega (arith, c.len-last.ensures.bounds.1, c.len-last.ensures.count) in
-    let long : length ns ≤ length c.pair-truths-leaves.result = omega (arith, c.pair-truths-leaves.ensures.long) in
+    let long : length ns ≤ length c.pair_truths-leaves.result = omega (arith, c.pair_truths-leaves.ensures.long) in
     let can : c.evaluate.result ≡ true =
-    c.evaluate.ensures.answer ∙ and_from _ _ (and_from _ _ (le-leb (length ns) (length c.pair-truths-leaves.result) long) (le-leb (length ns) 32 most)) c.nodes-nodes.ensures.first in
+    c.evaluate.ensures.answer ∙ and_from _ _ (and_from _ _ (le-leb (length ns) (length c.pair_truths-leaves.result) long) (le-leb (length ns) 32 most)) c.nodes-nodes.ensures.first in
     let last : c.len-last.result - 1 ≡ length ns - 1 = omega (arith, c.len-last.ensures.count) in
-    c.evaluate.ensures.trees can v c.pair-truths-leaves.ensures.truths blank (c.len-last.result - 1) (omega arith)
+    c.evaluate.ensures.trees can v c.pair_truths-leaves.ensures.truths blank (c.len-last.result - 1) (omega arith)
     ∙ ap (λ i. truth two v (node_tree ns i)) last
     ∙ ap (λ (ms : List (Node (Pair ℕ))). truth two v (tree_of ms)) c.nodes-nodes.ensures.items

@@ -4,10 +4,10 @@ use Rattle.rules.specs.Leaves.{leaf_passes, pair_among}
 use Rattle.rules.proofs.LeafTests.{leaf_at}
 use Rattle.rules.proofs.PairTruths.{upto_leaf, upto_word}
 use Rattle.rules.proofs.keeping.pair_truths.Goals as goal
-use Rattle.rules.proofs.keeping.pair_truths.Goals.{in-Leaf, in-default}
+use Rattle.rules.proofs.keeping.pair_truths.Goals.{in-Leaf, in_default}
 
-pub fires-together-requires : goal.fires-together-requires
-fires-together-requires c =
+pub fires_together-requires : goal.fires_together-requires
+fires_together-requires c =
     let q = pair_among (length c.args.firings.now) in
     record { lots = ap (leaf_passes q) (sym c.in-Leaf.is) ∙ leaf_at q c.args.nodes.now c.loop-i.i _ c.requires.lots (omega arith) }
 
@@ -19,13 +19,13 @@ loop-i-preserved c =
     let i = c.loop-i.i in
     elim c.match-node.branch [
       | in-Leaf w ↦ (
-        ap length w.truths-is ∙ length-set ts i w.fires-together.result ∙ c.loop-i.invariant.0,
+        ap length w.truths-is ∙ length-set ts i w.fires_together.result ∙ c.loop-i.invariant.0,
         λ k a l s.
             ap (λ (us : List Bool). get_or us k false) w.truths-is
-            ∙ upto_leaf v ns ts i _ c.loop-i.invariant.1 (omega arith) w.in-Leaf.pair w.fires-together.result (omega (arith, c.loop-i.invariant.0)) w.in-Leaf.is w.fires-together.ensures k a l s,
+            ∙ upto_leaf v ns ts i _ c.loop-i.invariant.1 (omega arith) w.in-Leaf.pair w.fires_together.result (omega (arith, c.loop-i.invariant.0)) w.in-Leaf.is w.fires_together.ensures k a l s,
       )
-      | in-default w ↦ (
+      | in_default w ↦ (
         ap length w.truths-is ∙ c.loop-i.invariant.0,
-        λ k a l s. ap (λ (us : List Bool). get_or us k false) w.truths-is ∙ upto_word v ns ts i _ c.loop-i.invariant.1 (omega arith) w.in-default.not-Leaf k a l s,
+        λ k a l s. ap (λ (us : List Bool). get_or us k false) w.truths-is ∙ upto_word v ns ts i _ c.loop-i.invariant.1 (omega arith) w.in_default.not-Leaf k a l s,
       )
     ]

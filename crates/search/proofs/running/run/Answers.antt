@@ -4,7 +4,7 @@ use Rattle.search.specs.Searching.{here, outcome}
 use Rattle.search.proofs.Standings.{stepped_more, standing_begun, standing_moved, standing_answers}
 use Rattle.search.specs.Conflicts.{working_not_found, working_not_refuted}
 use Rattle.search.proofs.running.run.Goals as goal
-use Rattle.search.proofs.running.run.Goals.{else-loop-steps-test, then-loop-steps-test+in-default}
+use Rattle.search.proofs.running.run.Goals.{else-loop-steps-test, then-loop-steps-test+in_default}
 
 pub loop-steps-init : goal.loop-steps-init
 loop-steps-init g c = (omega arith, standing_begun _ _ _ _ c.begin.ensures.begun, here)
@@ -18,7 +18,7 @@ loop-steps-preserved g c =
 
 pub returns-in-Working-status : goal.returns-in-Working-status
 returns-in-Working-status g c =
-    let all : c.loop-steps.steps ≡ c.args.budget = elim c.loop-steps-test.branch [ else-loop-steps-test w ↦ omega (arith, c.loop-steps.invariant.0, w.loop-steps-test.false) | then-loop-steps-test+in-default w ↦ absurd (w.in-default.not-Working (w.status.ensures ∙ sym c.in-Working-status.ensures)) ] in
+    let all : c.loop-steps.steps ≡ c.args.budget = elim c.loop-steps-test.branch [ else-loop-steps-test w ↦ omega (arith, c.loop-steps.invariant.0, w.loop-steps-test.false) | then-loop-steps-test+in_default w ↦ absurd (w.in_default.not-Working (w.status.ensures ∙ sym c.in-Working-status.ensures)) ] in
     record {
       answers = standing_answers _ _ _ _ _ _ _ c.loop-steps.invariant.1 c.loop-steps.invariant.0 (λ _. all) (g.met.S.Searcher.lively c.loop-steps.searcher c.loop-steps.invariant.1.at_sound) (ap (λ s. outcome s c.loop-steps.steps) c.in-Working-status.ensures);
       ran = (_, c.begin.ensures.begins, c.loop-steps.invariant.2);

@@ -2,11 +2,11 @@ use Rattle.std.proofs.Common.{◌≡◌, ℕ, ◌+◌, List, drop, Some, None, v
 use Rattle.search_demo.specs.Reading.{read_on, ended, numbers_of}
 use Rattle.search_demo.proofs.Lines.{read_space, read_digit, read_fault, read_all}
 use Rattle.search_demo.proofs.reading.read_numbers.Goals as goal
-use Rattle.search_demo.proofs.reading.read_numbers.Goals.{then-byte-eq32+in-ok-add, else-byte-eq32+else-is-none}
+use Rattle.search_demo.proofs.reading.read_numbers.Goals.{then-byte-eq32+in_ok-add, else-byte-eq32+else-is_none}
 
-pub returns-then-is-none : goal.returns-then-is-none
-returns-then-is-none c =
-    read_fault c.args.line.now c.loop-byte.byte-index c.loop-byte-test.true (vec_items c.loop-byte.numbers) c.loop-byte.number c.if-byte-eq32.false c.grow-number.result c.grow-number.ensures c.if-is-none.ensures
+pub returns-then-is_none : goal.returns-then-is_none
+returns-then-is_none c =
+    read_fault c.args.line.now c.loop-byte.byte-index c.loop-byte-test.true (vec_items c.loop-byte.numbers) c.loop-byte.number c.if-byte-eq32.false c.grow-number.result c.grow-number.ensures c.if-is_none.ensures
     ∙ c.loop-byte.invariant
 
 pub loop-byte-preserved : goal.loop-byte-preserved
@@ -18,12 +18,12 @@ loop-byte-preserved c =
     let goes : (ns : List ℕ) (o : Option ℕ) → vec_items c.if-byte-eq32.numbers ≡ ns → c.if-byte-eq32.number ≡ o → read_on ns o (drop (i + 1) line) ≡ read_on numbers number (drop i line) → read_on (vec_items c.if-byte-eq32.numbers) c.if-byte-eq32.number (drop (i + 1) line) ≡ numbers_of line =
     λ ns o e f r. cc c.loop-byte.invariant in
     elim c.if-byte-eq32.branch [
-      | then-byte-eq32+in-ok-add w ↦ goes (ended numbers number) None (ap vec_items w.numbers-is ∙ w.in-ok-add.ensures) w.number-is (sym (read_space line i c.loop-byte-test.true numbers number w.if-byte-eq32.true))
-      | else-byte-eq32+else-is-none w ↦ goes numbers w.grow-number.result (ap vec_items w.numbers-is) w.number-is (read_digit line i c.loop-byte-test.true numbers number w.if-byte-eq32.false w.grow-number.result w.grow-number.ensures w.if-is-none.ensures)
+      | then-byte-eq32+in_ok-add w ↦ goes (ended numbers number) None (ap vec_items w.numbers-is ∙ w.in_ok-add.ensures) w.number-is (sym (read_space line i c.loop-byte-test.true numbers number w.if-byte-eq32.true))
+      | else-byte-eq32+else-is_none w ↦ goes numbers w.grow-number.result (ap vec_items w.numbers-is) w.number-is (read_digit line i c.loop-byte-test.true numbers number w.if-byte-eq32.false w.grow-number.result w.grow-number.ensures w.if-is_none.ensures)
     ]
 
 pub returns : goal.returns
 returns c =
-    ap Some c.in-ok-add-2.ensures
+    ap Some c.in_ok-add-2.ensures
     ∙ sym (read_all c.args.line.now c.loop-byte.byte-index (vec_items c.loop-byte.numbers) c.loop-byte.number c.loop-byte-test.false)
     ∙ c.loop-byte.invariant

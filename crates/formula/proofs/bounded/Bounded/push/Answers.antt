@@ -1,5 +1,5 @@
 use Rattle.std.proofs.Common.{◌<◌, length, arith}
-use Rattle.std.proofs.lemmas.List.{take_more_set, length-take-le}
+use Rattle.std.proofs.lemmas.List.{take_more_set}
 use Rattle.formula.proofs.bounded.Bounded.push.Goals as goal
 
 pub returns : goal.returns

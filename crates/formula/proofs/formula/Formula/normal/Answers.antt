@@ -15,23 +15,17 @@ append-requires c =
       room = room_made (nodes_of f) _ (held c.new-table.result) f.whole e (omega arith) c.new-table.ensures;
     }
 
-pub invariant-of-result : goal.invariant-of-result
-invariant-of-result c =
+pub invariant_of-result : goal.invariant_of-result
+invariant_of-result c =
     let f = c.args.self.now in
     let e = top_tree (nodes_of f) c.nodes.result.now c.len.result c.nodes.ensures.items c.len.ensures.count in
-    let hs = held c.append.new.out in (
-      c.append.new.out.few,
-      (
-        made_whole (formula_tree f) _ _ hs c.new-table.ensures e c.append.ensures.more,
-        (
-          made_normal (formula_tree f) _ _ hs c.new-table.ensures e c.append.ensures.more,
-          (
-            made_in_order (formula_tree f) _ _ hs c.new-table.ensures e c.append.ensures.more f.in_order,
-            tt,
-          ),
-        ),
-      ),
-    )
+    let hs = held c.append.new.out in
+    record {
+      few = c.append.new.out.few;
+      whole = made_whole (formula_tree f) _ _ hs c.new-table.ensures e c.append.ensures.more;
+      normal = made_normal (formula_tree f) _ _ hs c.new-table.ensures e c.append.ensures.more;
+      in_order = made_in_order (formula_tree f) _ _ hs c.new-table.ensures e c.append.ensures.more f.in_order;
+    }
 
 pub returns : goal.returns
 returns c =

@@ -10,8 +10,8 @@ use Rattle.grammar.proofs.draft.Draft.pair.Goals as goal
 pub number-other-requires : goal.number-other-requires
 number-other-requires c = record { room = omega (arith, ap length c.number-one.ensures.names, enlist_length (held c.args.self.now.names) c.args.first, c.args.self.now.two) }
 
-pub invariant-of-self : goal.invariant-of-self
-invariant-of-self c =
+pub invariant_of-self : goal.invariant_of-self
+invariant_of-self c =
     let e = ap length c.number-one.ensures.names in
     let f = ap length c.number-other.ensures.names in
     let g = enlist_length (held c.args.self.now.names) c.args.first in

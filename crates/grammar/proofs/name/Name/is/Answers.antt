@@ -5,7 +5,7 @@ use Rattle.grammar.proofs.name.Name.is.Goals as goal
 
 pub returns : goal.returns
 returns c =
-    let e : c.same-bytes.result ≡ same c.args.self.now.bytes c.args.other.now.bytes = c.same-bytes.ensures ∙ ap₂ same c.bytes.ensures c.bytes-2.ensures in
+    let e : c.same_bytes.result ≡ same c.args.self.now.bytes c.args.other.now.bytes = c.same_bytes.ensures ∙ ap₂ same c.bytes.ensures c.bytes-2.ensures in
     record {
       value = e;
       decoded = λ n m d f i j. let h = same_stored c.args.self.now c.args.other.now n m d f i j in ((λ s. h.0 (sym e ∙ s)), (λ s. e ∙ h.1 s));

@@ -7,8 +7,8 @@ use Rattle.graph.proofs.Flags.{flags_stand, stands_within, take_set_any}
 use Rattle.graph.specs.Members.{without_none}
 use Rattle.graph.proofs.standing.Standing.take_out.Goals as goal
 
-pub overflow-sub-self : goal.overflow-sub-self
-overflow-sub-self c = (stands_within (flags_in c.args.self.now) c.args.lot (sym c.if-stands.ensures)).0
+pub overflow_sub-self : goal.overflow_sub-self
+overflow_sub-self c = (stands_within (flags_in c.args.self.now) c.args.lot (sym c.if-stands.ensures)).0
 
 pub bounds-self-lot : goal.bounds-self-lot
 bounds-self-lot c =

@@ -6,14 +6,14 @@ use Rattle.rules.proofs.ApartLots.{apart_push}
 use Rattle.rules.proofs.AddedLots.{new_lot, written_behind}
 use Rattle.rules.proofs.lots.Lots.add.Goals as goal
 
-pub invariant-of-self : goal.invariant-of-self
-invariant-of-self c =
+pub invariant_of-self : goal.invariant_of-self
+invariant_of-self c =
     let t = c.args.self.now in
     let ls = lots_in t in
     let k : length c.names-count.result.now ≡ length ls = ap length c.names-count.ensures in (
       omega arith,
       (
-        ap apart (written_behind t.names t.count _ c.args.named.name (omega arith) k (omega arith)) ∙ apart_push c.args.named.name ls t.once (omega (arith, c.number-of.ensures)),
+        ap apart (written_behind t.names t.count _ c.args.named.name (omega arith) k (omega arith)) ∙ apart_push c.args.named.name ls t.once (omega (arith, c.number_of.ensures)),
         tt,
       ),
     )
@@ -22,7 +22,7 @@ pub returns : goal.returns
 returns c =
     let ls = lots_in c.args.self.now in
     let k : length c.names-count.result.now ≡ length ls = ap length c.names-count.ensures in
-    let e = new_lot ls c.args.named (omega (arith, c.number-of.ensures)) (omega arith) in
+    let e = new_lot ls c.args.named (omega (arith, c.number_of.ensures)) (omega arith) in
     record {
       answer = sym (ap done e);
       after = written_behind c.args.self.now.names c.args.self.now.count _ c.args.named.name (omega arith) k (omega arith) ∙ sym (ap (settled ls) e);

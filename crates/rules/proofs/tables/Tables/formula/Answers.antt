@@ -8,11 +8,11 @@ use Rattle.rules.specs.LotNames.{lots_in}
 use Rattle.rules.proofs.AmongLots.{over_in_words}
 use Rattle.rules.proofs.tables.Tables.formula.Goals as goal
 
-pub returns-in-err-rule : goal.returns-in-err-rule
-returns-in-err-rule c =
+pub returns-in_err-rule : goal.returns-in_err-rule
+returns-in_err-rule c =
     let t = c.args.self.now in
     record {
-      tree = rw c.from-residual.ensures (ap (option_map (λ (e : Entry). e.tree)) c.in-err-rule.ensures);
+      tree = rw c.from_residual.ensures (ap (option_map (λ (e : Entry). e.tree)) c.in_err-rule.ensures);
       over = λ k f e. over_in_words (length (lots_in t.lots)) k (entries_in t.given t.rows) f t.over e;
     }
 
@@ -20,6 +20,6 @@ pub returns : goal.returns
 returns c =
     let t = c.args.self.now in
     record {
-      tree = ap (option_map (λ (e : Entry). e.tree)) c.in-ok-rule.ensures ∙ ap (λ (f : Formula). Some (formula_tree f)) (sym c.formula.ensures);
+      tree = ap (option_map (λ (e : Entry). e.tree)) c.in_ok-rule.ensures ∙ ap (λ (f : Formula). Some (formula_tree f)) (sym c.formula.ensures);
       over = λ k f e. over_in_words (length (lots_in t.lots)) k (entries_in t.given t.rows) f t.over e;
     }

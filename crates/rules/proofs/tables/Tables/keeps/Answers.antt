@@ -15,9 +15,9 @@ pub keeps-requires : goal.keeps-requires
 keeps-requires c =
     let t = c.args.self.now in
     let n = length (lots_in t.lots) in
-    let f = formula_tree c.in-ok-formula.formula.now in
+    let f = formula_tree c.in_ok-formula.formula.now in
     record {
-      lots = among_wider n (length c.args.firings.now) f (omega (arith, c.lots.ensures)) (item_among n c.args.number (entries_in t.given t.rows) f t.over c.in-ok-formula.ensures.tree);
+      lots = among_wider n (length c.args.firings.now) f (omega (arith, c.lots.ensures)) (item_among n c.args.number (entries_in t.given t.rows) f t.over c.in_ok-formula.ensures.tree);
     }
 
 pub returns : goal.returns
@@ -25,8 +25,8 @@ returns c =
     let t = c.args.self.now in
     let fs = c.args.firings.now in
     let n = length (lots_in t.lots) in
-    let f = formula_tree c.in-ok-formula.formula.now in
-    let found = c.in-ok-formula.ensures.tree in
+    let f = formula_tree c.in_ok-formula.formula.now in
+    let found = c.in_ok-formula.ensures.tree in
     record {
       value = ap Some c.keeps.ensures ∙ sym (cond-true _ _ _ (le-leb n (length fs) (omega (arith, c.lots.ensures))) ∙ ap (option_map (kept_in (by_lot fs))) found);
       lots = λ g u e agree.

@@ -11,16 +11,16 @@ use Rattle.rules.proofs.Numbered.{altered_there, altered_none}
 use Rattle.rules.proofs.PutBack.{put_back}
 use Rattle.rules.proofs.tables.Tables.set_mark.Goals as goal
 
-pub invariant-of-self : goal.invariant-of-self
-invariant-of-self c =
+pub invariant_of-self : goal.invariant_of-self
+invariant_of-self c =
     let t = c.args.self.now in
     let i = c.in-Some.at in
     let n = length (lots_in t.lots) in (
       t.few,
       (
-        ap length c.set-mark.ensures ∙ length_altered (with_mark c.args.mark) i t.rows.rows ∙ t.wide,
+        ap length c.set_mark.ensures ∙ length_altered (with_mark c.args.mark) i t.rows.rows ∙ t.wide,
         (
-          ap (all_among n) (entries_marked t.given i c.args.mark t.rows c.set-mark.new.self c.set-mark.ensures) ∙ among_marked n i c.args.mark (entries_in t.given t.rows) ∙ t.over,
+          ap (all_among n) (entries_marked t.given i c.args.mark t.rows c.set_mark.new.self c.set_mark.ensures) ∙ among_marked n i c.args.mark (entries_in t.given t.rows) ∙ t.over,
           tt,
         ),
       ),
@@ -31,24 +31,24 @@ returns-in-Some c =
     let t = c.args.self.now in
     let i = c.in-Some.at in
     let e = ap (λ (es : List Entry). record { lots = lots_in t.lots; rules = es })
-    (entries_marked t.given i c.args.mark t.rows c.set-mark.new.self c.set-mark.ensures
+    (entries_marked t.given i c.args.mark t.rows c.set_mark.new.self c.set_mark.ensures
     ∙ sym (altered_there (entries_in t.given t.rows) (marked c.args.mark) c.args.number t.given i c.in-Some.ensures)) in
     record {
       after = e;
       only = one_marked c.args.number c.args.mark (entered t) _ e;
       back = put_back;
-      fields = record { rows = c.set-mark.ensures ∙ sym (row_there t.given c.args.number i c.args.mark t.rows.rows c.in-Some.ensures); lots = refl; given = refl };
+      fields = record { rows = c.set_mark.ensures ∙ sym (row_there t.given c.args.number i c.args.mark t.rows.rows c.in-Some.ensures); lots = refl; given = refl };
     }
 
-pub returns-in-default : goal.returns-in-default
-returns-in-default c =
+pub returns-in_default : goal.returns-in_default
+returns-in_default c =
     let t = c.args.self.now in
     let m = entries_length t.given t.rows t.wide t.few in
     let e = ap (λ (es : List Entry). record { lots = lots_in t.lots; rules = es })
-    (sym (altered_none (entries_in t.given t.rows) (marked c.args.mark) c.args.number t.given (sym m) c.in-default.ensures)) in
+    (sym (altered_none (entries_in t.given t.rows) (marked c.args.mark) c.args.number t.given (sym m) c.in_default.ensures)) in
     record {
       after = e;
       only = one_marked c.args.number c.args.mark (entered t) _ e;
       back = put_back;
-      fields = record { rows = sym (row_none t.given c.args.number c.args.mark t.rows.rows c.in-default.ensures); lots = refl; given = refl };
+      fields = record { rows = sym (row_none t.given c.args.number c.args.mark t.rows.rows c.in_default.ensures); lots = refl; given = refl };
     }

@@ -21,29 +21,29 @@ returns-then-self-ge-MAX-RULES c =
     let e = take_full (entered t) (said c.args.line.now) (omega arith) in
     record { answer = sym (ap last_number e); after = sym (ap (settled (entered t)) e); took = tt; refused = λ f s. refl }
 
-pub returns-in-err-lots : goal.returns-in-err-lots
-returns-in-err-lots c =
+pub returns-in_err-lots : goal.returns-in_err-lots
+returns-in_err-lots c =
     let t = c.args.self.now in
     let l = said c.args.line.now in
     let size = entries_length t.given t.rows t.wide t.few in
-    let p = err_from_is_err_and c.from-residual.result c.from-residual.ensures.1 in
-    let s = c.in-err-lots.ensures ∙ ap (lots_added (lots_in t.lots)) c.names-names.ensures in
+    let p = err_from_is_err_and c.from_residual.result c.from_residual.ensures.1 in
+    let s = c.in_err-lots.ensures ∙ ap (lots_added (lots_in t.lots)) c.names-names.ensures in
     let e = take_refused (entered t) l _ (omega arith) (sym s) in
     record {
       answer = p.1 ∙ ap Err p.2 ∙ sym (ap last_number e);
       after = sym (ap (settled (entered t)) e);
-      took = IfOk-from_err _ _ c.from-residual.ensures.0;
+      took = IfOk-from_err _ _ c.from_residual.ensures.0;
       refused = λ f s. refl;
     }
 
-pub invariant-of-self : goal.invariant-of-self
-invariant-of-self c =
+pub invariant_of-self : goal.invariant_of-self
+invariant_of-self c =
     let t = c.args.self.now in
     let l = said c.args.line.now in
     let ls = lots_in t.lots in
-    let ms = lots_in c.in-ok-lots.lots in
-    let s = sym (c.in-ok-lots.ensures ∙ ap (lots_added ls) c.names-names.ensures) in
-    let tree = made_over c.new.result c.over-lots-formula.result c.formula.result.now ms c.names-names.result.now l c.new.ensures.formula c.over-lots-formula.ensures c.names-names.ensures c.formula.ensures in (
+    let ms = lots_in c.in_ok-lots.lots in
+    let s = sym (c.in_ok-lots.ensures ∙ ap (lots_added ls) c.names-names.ensures) in
+    let tree = made_over c.new.result c.over_lots-formula.result c.formula.result.now ms c.names-names.result.now l c.new.ensures.formula c.over_lots-formula.ensures c.names-names.ensures c.formula.ensures in (
       omega arith,
       (
         ap length c.put.ensures ∙ length-set t.rows.rows t.given c.new.result ∙ t.wide,
@@ -59,10 +59,10 @@ returns c =
     let t = c.args.self.now in
     let l = said c.args.line.now in
     let ls = lots_in t.lots in
-    let ms = lots_in c.in-ok-lots.lots in
+    let ms = lots_in c.in_ok-lots.lots in
     let size = entries_length t.given t.rows t.wide t.few in
-    let s = sym (c.in-ok-lots.ensures ∙ ap (lots_added ls) c.names-names.ensures) in
-    let tree = made_over c.new.result c.over-lots-formula.result c.formula.result.now ms c.names-names.result.now l c.new.ensures.formula c.over-lots-formula.ensures c.names-names.ensures c.formula.ensures in
+    let s = sym (c.in_ok-lots.ensures ∙ ap (lots_added ls) c.names-names.ensures) in
+    let tree = made_over c.new.result c.over_lots-formula.result c.formula.result.now ms c.names-names.result.now l c.new.ensures.formula c.over_lots-formula.ensures c.names-names.ensures c.formula.ensures in
     let e = take_done (entered t) l ms (omega arith) s in
     let added = rule_added t.given t.rows c.put.new.self c.new.result ls ms l t.wide (omega arith) c.put.ensures tree c.new.ensures.mark in
     record {

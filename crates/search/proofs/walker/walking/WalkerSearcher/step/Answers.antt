@@ -24,7 +24,7 @@ returns-in-Working-Conflict c =
     let long : length (walker_state w).values ≡ w.len = length-take-le w.len w.values (omega arith) in
     let working = c.in-Working-Conflict.is-0 in
     moving walker_state walker_reserve walker_move _ w _ working (omega arith) (walker_steady (walker_state w) c.args.codes.now (omega arith) working)
-    (c.turn-back.ensures ∙ ap (walker_by (walker_state w)) c.in-Working-Conflict.ensures)
+    (c.turn_back.ensures ∙ ap (walker_by (walker_state w)) c.in-Working-Conflict.ensures)
 
 pub returns-in-Working-Full : goal.returns-in-Working-Full
 unfolding walker_move

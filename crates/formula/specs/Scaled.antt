@@ -1,4 +1,4 @@
--- The two scales obey the laws.
+-- The two scales obey the laws. Rests on Ops, Scales.
 use Rattle.std.proofs.Common.{◌≡◌, true, false, refl}
 use Rattle.formula.specs.declared.scale.Three.TheVariants.{Yes, No, Open}
 use Rattle.formula.specs.Ops.{Laws}
