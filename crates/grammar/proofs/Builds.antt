@@ -1,7 +1,6 @@
 -- A climb over all tokens of a rule.
-use Rattle.std.proofs.Common.{◌≡◌, ℕ, zero, suc, Bool, true, false, List, [], ◌∷◌, ◌++◌, length, drop, IsSomeAnd, Some, None, Option, sym, refl, ap, ◌∙◌, subst, MatchOption}
+use Rattle.std.proofs.Common.{◌≡◌, ℕ, true, List, [], ◌∷◌, ◌++◌, length, drop, IsSomeAnd, Some, None, Option, sym, refl, ap, ◌∙◌, subst, MatchOption}
 use mathlib.Core.Bool.{false≢true}
-use Rattle.formula.specs.declared.node.Node.{Node}
 use Rattle.formula.specs.declared.node.Pair.{Pair}
 use Rattle.formula.specs.Tree.{Tree, spans}
 use Rattle.formula.specs.Table.{post, tree_of, pair_place}

@@ -1,18 +1,16 @@
 -- The steps of precedence climbing.
-use Rattle.std.proofs.Common.{◌≡◌, ℕ, zero, suc, ◌+◌, ◌-◌, ◌<◌, ◌≤◌, Bool, true, false, cond, List, [], ◌∷◌, ◌++◌, length, get_or, take, drop, Some, None, Option, sym, refl, ap, ◌∙◌, subst, append_assoc, arith, length-append}
+use Rattle.std.proofs.Common.{◌≡◌, ℕ, suc, ◌+◌, ◌-◌, ◌<◌, ◌≤◌, Bool, true, false, cond, List, [], ◌∷◌, ◌++◌, length, get_or, take, drop, Some, None, Option, sym, refl, ap, ◌∙◌, subst, append_assoc, arith, length-append}
 use mathlib.Core.Bool.{false≢true}
 use Rattle.std.proofs.lemmas.List.{length-drop, drop-drop, drop_more, take_rest}
-use Rattle.formula.specs.declared.node.Node.{Node}
 use Rattle.formula.specs.declared.node.Node.TheVariants as node
-use Rattle.formula.specs.declared.node.Pair.{Pair}
-use Rattle.formula.specs.Tree.{Tree, not}
+use Rattle.formula.specs.Tree.{not}
 use Rattle.formula.specs.Table.{top, post}
 use Rattle.grammar.specs.declared.draft.Draft.{Draft}
 use Rattle.grammar.specs.declared.name.Named.{Named}
 use Rattle.grammar.specs.declared.token.Token.{Token}
 use Rattle.grammar.specs.declared.token.Token.TheVariants.{Open, Close, Name, With, Not, And, Or, Then}
 use Rattle.grammar.specs.declared.level.Level.{Level}
-use Rattle.grammar.specs.declared.level.Level.TheVariants.{Rule, Disjunction, Conjunction, Part}
+use Rattle.grammar.specs.declared.level.Level.TheVariants.{Rule, Part}
 use Rattle.grammar.specs.Names.{Phrase, enlist, listed, names_of, pair_in, numbered}
 use Rattle.grammar.specs.Grammar.{pair}
 use Rattle.grammar.specs.Reads.{Reads, pair_read, not_read, parens_read, part_read}
@@ -20,7 +18,7 @@ use Rattle.grammar.specs.Words.{weight, words}
 use Rattle.grammar.specs.Drafts.{nodes_in, names_in}
 use Rattle.grammar.specs.Climbing.{goesOn, word_of, rightOf, joinNode, closer, linked, Stops, filled, Got, Climbed}
 use Rattle.grammar.proofs.Hopes.{closer_is, linked_is}
-use Rattle.grammar.proofs.Ready.{Ready, Head, ready_joint, from_part, join, joins, Shape, shape, counted}
+use Rattle.grammar.proofs.Ready.{Ready, Head, ready_joint, from_part, join, joins, shape, counted}
 use Rattle.grammar.proofs.Numbering.{top_numbered, listed_append, listed_holds, holds_keeps}
 
 none_token : {k : Token} → None ≡ Some k → ⊥

@@ -1,16 +1,14 @@
 -- What the grammar derives, the parser and the automaton follow.
-use Rattle.std.proofs.Common.{◌≡◌, ℕ, suc, Bool, true, false, List, [], ◌∷◌, Some, None, Option, sym, refl, ap, ◌∙◌}
+use Rattle.std.proofs.Common.{◌≡◌, ℕ, suc, true, List, Some, sym, refl, ap, ◌∙◌}
 use Rattle.grammar.specs.declared.token.Token.{Token}
-use Rattle.grammar.specs.declared.token.Token.TheVariants.{Open, Close, Name, With, Not, And, Or, Then}
 use Rattle.grammar.specs.declared.level.Level.{Level}
 use Rattle.grammar.specs.declared.level.Level.TheVariants.{Rule, Disjunction, Conjunction, Part}
-use Rattle.formula.specs.Tree.{not, and, or, then}
 use Rattle.grammar.specs.Names.{Phrase}
-use Rattle.grammar.specs.Grammar.{pair, Is}
+use Rattle.grammar.specs.Grammar.{Is}
 use Rattle.grammar.specs.Reads.{Reads, pair_read, not_read, parens_read, part_read, and_read, conjunction_read, or_read, disjunction_read, then_read}
 use Rattle.grammar.specs.Automaton as auto
 use Rattle.grammar.specs.declared.state.State.TheVariants as stage
-use Rattle.grammar.specs.Parser.{Stack, base, under_open, under_not, under_and, under_or, under_then, Spot, want, have, part_done, conjunction_done, disjunction_done, all_done, closing, or_next, then_next, feed_all, whole, finish, parse}
+use Rattle.grammar.specs.Parser.{Stack, base, under_open, under_not, under_and, under_or, under_then, want, have, part_done, conjunction_done, disjunction_done, all_done, closing, or_next, then_next, feed_all, whole, finish, parse}
 use Rattle.grammar.proofs.Lefts.{read_all}
 
 -- nothing tighter than a conjunction, or than a disjunction, is unfinished

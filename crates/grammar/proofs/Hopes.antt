@@ -1,16 +1,15 @@
 -- Where the automaton cannot end.
-use Rattle.std.proofs.Common.{◌≡◌, ℕ, zero, suc, Bool, true, false, List, [], ◌∷◌, drop, Some, None, Option, sym, refl, ap, ◌∙◌, arith}
+use Rattle.std.proofs.Common.{◌≡◌, ℕ, suc, true, false, List, [], ◌∷◌, drop, Some, None, Option, sym, refl, ap, ◌∙◌, arith}
 use mathlib.Core.Bool.{false≢true}
 use Rattle.grammar.specs.declared.token.Token.{Token}
 use Rattle.grammar.specs.declared.token.Token.TheVariants.{Open, Close, Name, With, Not, And, Or, Then}
 use Rattle.grammar.specs.declared.level.Level.{Level}
-use Rattle.grammar.specs.declared.level.Level.TheVariants.{Rule, Disjunction, Conjunction, Part}
+use Rattle.grammar.specs.declared.level.Level.TheVariants.{Rule}
 use Rattle.grammar.specs.Names.{Phrase}
 use Rattle.grammar.specs.declared.name.Named.{Named}
 use Rattle.grammar.specs.Reads.{Reads}
-use Rattle.grammar.specs.declared.state.State.{State}
 use Rattle.grammar.specs.declared.state.State.TheVariants.{WantPart, HaveName, WantName, HavePart, Lost}
-use Rattle.grammar.specs.Automaton.{step, run, ended}
+use Rattle.grammar.specs.Automaton.{run, ended}
 use Rattle.grammar.specs.Climbing.{goesOn, closer, linked, name_first, Hopeless, Stops}
 use Rattle.grammar.proofs.Complete.{moves}
 use Rattle.grammar.proofs.Prefixes.{run_lost}

@@ -1,12 +1,11 @@
 -- The two forms of the grammar say the same.
-use Rattle.std.proofs.Common.{◌≡◌, ℕ, List, [], ◌∷◌, ◌++◌, sym, refl, ap, ◌∙◌, subst, append_assoc, append-nil}
+use Rattle.std.proofs.Common.{◌≡◌, List, [], ◌∷◌, ◌++◌, sym, refl, ap, ◌∙◌, subst, append_assoc, append-nil}
 use Rattle.grammar.specs.declared.token.Token.{Token}
 use Rattle.grammar.specs.declared.token.Token.TheVariants.{Open, Close, Name, With, Not, And, Or, Then}
 use Rattle.grammar.specs.declared.level.Level.{Level}
-use Rattle.grammar.specs.declared.level.Level.TheVariants.{Rule, Disjunction, Conjunction, Part}
-use Rattle.formula.specs.Tree.{not, and, or, then}
+use Rattle.grammar.specs.declared.level.Level.TheVariants.{Rule}
 use Rattle.grammar.specs.Names.{Phrase}
-use Rattle.grammar.specs.Grammar.{pair, Is, pair_part, not_part, parens, one_part, and_conjunction, one_conjunction, or_disjunction, one_disjunction, then_rule}
+use Rattle.grammar.specs.Grammar.{Is, pair_part, not_part, parens, one_part, and_conjunction, one_conjunction, or_disjunction, one_disjunction, then_rule}
 use Rattle.grammar.specs.Reads.{Reads, pair_read, not_read, parens_read, part_read, and_read, conjunction_read, or_read, disjunction_read, then_read}
 
 pub read : {l : Level} {p : List Token} {t : Phrase} → Is l p t → (r : List Token) → Reads l (p ++ r) r t

@@ -1,15 +1,14 @@
 -- Names keep their numbers while more names are listed.
-use Rattle.std.proofs.Common.{◌≡◌, ℕ, zero, suc, ◌+◌, ◌<◌, ◌≤◌, Bool, true, false, cond, ◌&&◌, ltb, ◌⊎◌, List, [], ◌∷◌, ◌++◌, length, get_or, drop, sym, refl, ap, ◌∙◌, subst, ap₂, ⊎_elim, arith, length-append}
-use Rattle.std.proofs.lemmas.Bool.{cond-true, cond-false, ltb-true, lt-ltb, le-ltb, ltb-false, cases_eq}
+use Rattle.std.proofs.Common.{◌≡◌, ℕ, zero, suc, ◌+◌, ◌<◌, ◌≤◌, Bool, true, false, cond, ltb, List, [], ◌∷◌, ◌++◌, length, get_or, drop, sym, refl, ap, ◌∙◌, subst, ap₂, ⊎_elim, arith, length-append}
+use Rattle.std.proofs.lemmas.Bool.{cond-true, cond-false, ltb-true, ltb-false, cases_eq}
 use Rattle.std.proofs.lemmas.List.{drop_more, drop_all, get_or_at, get_or_append_left}
 use Rattle.std.proofs.ByRecursion.{All-push}
 use Rattle.std.specs.List.{AllByRecursion as All}
-use Rattle.formula.specs.declared.node.Pair.{Pair}
-use Rattle.formula.specs.Tree.{Tree, leaf, not, and, or, then, map_tree}
+use Rattle.formula.specs.Tree.{leaf, not, and, or, then}
 use Rattle.formula.specs.Table.{top}
 use Rattle.grammar.specs.declared.name.Name.{Name}
 use Rattle.grammar.specs.declared.name.Named.{Named}
-use Rattle.grammar.specs.Names.{same, find, enlist, listed, Phrase, names_of, nobody, EachOnce, pair_in, numbered}
+use Rattle.grammar.specs.Names.{same, find, enlist, listed, Phrase, names_of, nobody, EachOnce, numbered}
 use Rattle.grammar.proofs.Same.{same_self}
 
 -- the name stands in the list

@@ -1,12 +1,10 @@
 -- Every state but the lost one can be completed.
-use Rattle.std.proofs.Common.{◌≡◌, ℕ, zero, suc, Bool, true, false, ◌≢◌, List, [], ◌∷◌, ◌++◌, sym, refl, ap, ◌∙◌}
+use Rattle.std.proofs.Common.{◌≡◌, ℕ, zero, suc, true, ◌≢◌, List, [], ◌∷◌, ◌++◌, sym, refl, ap, ◌∙◌}
 use mathlib.Core.Bool.{false≢true}
 use Rattle.grammar.specs.declared.token.Token.{Token}
-use Rattle.grammar.specs.declared.token.Token.TheVariants.{Open, Close, Name, With, Not, And, Or, Then}
-use Rattle.grammar.specs.declared.level.Level.TheVariants.{Rule}
-use Rattle.grammar.specs.Names.{Phrase, stored}
+use Rattle.grammar.specs.declared.token.Token.TheVariants.{Close, Name, With}
+use Rattle.grammar.specs.Names.{stored}
 use Rattle.grammar.specs.declared.name.Named.{Named}
-use Rattle.grammar.specs.Grammar.{Is}
 use Rattle.grammar.specs.declared.state.State.{State}
 use Rattle.grammar.specs.declared.state.State.TheVariants.{WantPart, HaveName, WantName, HavePart, Lost}
 use Rattle.grammar.specs.Automaton.{step, run, ended, accepted}

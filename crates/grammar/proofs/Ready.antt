@@ -1,14 +1,13 @@
 -- What a phrase so far is, by the token behind it.
-use Rattle.std.proofs.Common.{◌≡◌, ℕ, suc, ◌+◌, Bool, true, false, List, [], ◌∷◌, ◌++◌, sym, refl, ap, ◌∙◌, append_assoc, arith}
+use Rattle.std.proofs.Common.{◌≡◌, ℕ, suc, ◌+◌, true, List, [], ◌∷◌, ◌++◌, sym, refl, arith}
 use mathlib.Core.Bool.{false≢true}
 use Rattle.grammar.specs.declared.token.Token.{Token}
 use Rattle.grammar.specs.declared.token.Token.TheVariants.{Open, Close, Name, With, Not, And, Or, Then}
 use Rattle.grammar.specs.declared.level.Level.{Level}
 use Rattle.grammar.specs.declared.level.Level.TheVariants.{Rule, Disjunction, Conjunction, Part}
-use Rattle.formula.specs.Tree.{not, and, or, then}
+use Rattle.formula.specs.Tree.{and, or, then}
 use Rattle.grammar.specs.Names.{Phrase, names_of, numbered}
 use Rattle.grammar.specs.declared.name.Named.{Named}
-use Rattle.grammar.specs.Grammar.{pair}
 use Rattle.grammar.specs.Reads.{Reads, pair_read, not_read, parens_read, part_read, and_read, conjunction_read, or_read, disjunction_read, then_read}
 use Rattle.formula.specs.Table.{top, post}
 use Rattle.grammar.specs.Words.{words}

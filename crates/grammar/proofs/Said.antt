@@ -1,7 +1,6 @@
 -- A rule has a node for each of its words, and the names of its tokens.
-use Rattle.std.proofs.Common.{◌≡◌, ℕ, suc, ◌+◌, List, [], ◌∷◌, ◌++◌, sym, refl, ap, ◌∙◌, ap₂, append_assoc, append-nil, arith}
+use Rattle.std.proofs.Common.{◌≡◌, suc, ◌+◌, List, ◌++◌, sym, refl, ap, ◌∙◌, ap₂, append_assoc, append-nil, arith}
 use Rattle.formula.specs.Tree.{leaf, not, and, or, then, size}
-use Rattle.formula.specs.Table.{top}
 use Rattle.formula.proofs.Growth.{top_size}
 use Rattle.grammar.specs.declared.name.Named.{Named}
 use Rattle.grammar.specs.declared.token.Token.{Token}

@@ -1,14 +1,12 @@
 -- The automaton and the parser go in step, and what they have taken is derived.
-use Rattle.std.proofs.Common.{◌≡◌, ℕ, zero, suc, Bool, true, false, List, [], ◌∷◌, Some, None, Option, sym, refl, ap, ◌∙◌, subst, arith}
+use Rattle.std.proofs.Common.{◌≡◌, ℕ, zero, suc, Bool, true, false, List, [], ◌∷◌, Some, None, Option, subst, arith}
 use mathlib.Core.Bool.{false≢true}
 use Rattle.grammar.specs.declared.token.Token.{Token}
 use Rattle.grammar.specs.declared.token.Token.TheVariants.{Open, Close, Name, With, Not, And, Or, Then}
-use Rattle.grammar.specs.declared.level.Level.{Level}
 use Rattle.grammar.specs.declared.level.Level.TheVariants.{Rule, Disjunction, Conjunction, Part}
-use Rattle.formula.specs.Tree.{not, and, or, then}
 use Rattle.grammar.specs.Names.{Phrase}
 use Rattle.grammar.specs.declared.name.Named.{Named}
-use Rattle.grammar.specs.Grammar.{pair, Is}
+use Rattle.grammar.specs.Grammar.{Is}
 use Rattle.grammar.specs.Reads.{Reads, pair_read, not_read, parens_read, part_read, and_read, conjunction_read, or_read, disjunction_read, then_read}
 use Rattle.grammar.specs.Automaton as auto
 use Rattle.grammar.specs.declared.state.State.TheVariants as stage

@@ -1,11 +1,10 @@
-use Rattle.std.specs.Prelude.{◌≡◌, Bool, true, false, ◌≢◌, ◌↔◌, List, [], ◌∷◌, ◌++◌, Some, None, Option}
+use Rattle.std.specs.Prelude.{◌≡◌, true, ◌≢◌, ◌↔◌, List, [], ◌∷◌, ◌++◌, Some}
 use Rattle.grammar.specs.declared.token.Token.{Token}
 use Rattle.grammar.specs.declared.level.Level.TheVariants.{Rule}
 use Rattle.grammar.specs.Names.{Phrase}
 use Rattle.grammar.specs.Grammar.{Is}
-use Rattle.grammar.specs.declared.state.State.{State}
 use Rattle.grammar.specs.declared.state.State.TheVariants.{WantPart, Lost}
-use Rattle.grammar.specs.Automaton.{step, run, accepted}
+use Rattle.grammar.specs.Automaton.{run, accepted}
 use Rattle.grammar.specs.Parser.{parse}
 
 -- a token list has at most one tree

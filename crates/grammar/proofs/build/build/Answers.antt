@@ -1,10 +1,9 @@
-use Rattle.std.proofs.Common.{◌≡◌, ℕ, List, length, ap, ◌∙◌}
+use Rattle.std.proofs.Common.{ℕ, List, length, ap, ◌∙◌}
 use Rattle.formula.specs.declared.node.Node.{Node}
 use Rattle.formula.specs.declared.node.Pair.{Pair}
 use Rattle.formula.specs.Table.{tree_of}
 use Rattle.formula.specs.Within.{within}
 use Rattle.formula.specs.Held.{held}
-use Rattle.grammar.specs.Readings.{Reading}
 use Rattle.grammar.proofs.Builds.{built, says}
 use Rattle.grammar.proofs.build.build.Goals as goal
 
@@ -16,7 +15,7 @@ new-requires c =
 pub invariant_of-result : goal.invariant_of-result
 invariant_of-result c =
     let b = built c.args.tokens.now c.climb.result c.new-draft.result c.climb.new.out c.requires.rule c.requires.placed c.new-draft.ensures.nodes c.new-draft.ensures.names c.climb.ensures in
-    (ap (λ (ns : List (Node (Pair ℕ))). within (length (held c.climb.new.out.names)) (tree_of ns)) c.new.ensures ∙ b.named, tt)
+    record { named = ap (λ (ns : List (Node (Pair ℕ))). within (length (held c.climb.new.out.names)) (tree_of ns)) c.new.ensures ∙ b.named }
 
 pub returns : goal.returns
 returns c =

@@ -1,4 +1,4 @@
-use Rattle.std.proofs.Common.{◌≡◌, ◌<◌, length, sym, ◌∙◌, arith}
+use Rattle.std.proofs.Common.{◌<◌, length, sym, ◌∙◌, arith}
 use Rattle.grammar.proofs.Same.{same_lengths, same_step, same_stop, same_end}
 use Rattle.grammar.proofs.name.same_bytes.Goals as goal
 

@@ -1,4 +1,4 @@
-use Rattle.std.proofs.Common.{◌≡◌, ℕ, List, [], ◌∷◌, ◌++◌, length, sym, refl, ap, ◌∙◌, ap₂, arith, length-append}
+use Rattle.std.proofs.Common.{◌≡◌, ℕ, [], ◌∷◌, ◌++◌, length, sym, ap, ◌∙◌, ap₂, arith, length-append}
 use Rattle.formula.specs.Held.{held}
 use Rattle.formula.specs.declared.node.Node.{Node}
 use Rattle.formula.specs.declared.node.Node.TheVariants.{Leaf}
@@ -16,7 +16,7 @@ invariant_of-self c =
     let f = ap length c.number-other.ensures.names in
     let g = enlist_length (held c.args.self.now.names) c.args.first in
     let h = enlist_length (held c.number-one.new.names) c.args.second in
-    (omega (arith, ap length c.push.ensures, length-append (held c.args.self.now.nodes) (Leaf (record { place = c.args.place; first = c.number-one.result; second = c.number-other.result }) ∷ []), c.args.self.now.two), tt)
+    record { two = omega (arith, ap length c.push.ensures, length-append (held c.args.self.now.nodes) (Leaf (record { place = c.args.place; first = c.number-one.result; second = c.number-other.result }) ∷ []), c.args.self.now.two) }
 
 pub returns : goal.returns
 returns c =

@@ -3,4 +3,4 @@ use Rattle.formula.specs.Held.{held}
 use Rattle.grammar.proofs.draft.Draft.push.Goals as goal
 
 pub invariant_of-self : goal.invariant_of-self
-invariant_of-self c = (omega (arith, ap length c.push.ensures, length-append (held c.args.self.now.nodes) (c.args.node ∷ []), c.args.self.now.two), tt)
+invariant_of-self c = record { two = omega (arith, ap length c.push.ensures, length-append (held c.args.self.now.nodes) (c.args.node ∷ []), c.args.self.now.two) }

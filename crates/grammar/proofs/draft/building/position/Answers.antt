@@ -1,4 +1,4 @@
-use Rattle.std.proofs.Common.{◌≡◌, sym, arith}
+use Rattle.std.proofs.Common.{sym, arith}
 use Rattle.grammar.proofs.Numbering.{find_hit, find_miss, find_end}
 use Rattle.grammar.proofs.draft.building.position.Goals as goal
 
