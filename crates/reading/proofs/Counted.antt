@@ -1,11 +1,11 @@
 -- The words of a line, counted one by one; and where they stand.
-use Rattle.std.proofs.Common.{◌≡◌, ℕ, zero, suc, ◌+◌, ◌<◌, ◌≤◌, Bool, true, false, List, [], ◌∷◌, length, get_or, drop, sym, refl, ap, ◌∙◌, subst, arith}
+use Rattle.std.proofs.Common.{◌≡◌, ℕ, suc, ◌+◌, ◌<◌, ◌≤◌, Bool, List, [], ◌∷◌, length, get_or, drop, ap, arith}
 use Rattle.std.proofs.lemmas.List.{drop_more, drop_all, length-drop}
 use Rattle.reading.proofs.Tokens.{lexed}
 use Rattle.grammar.specs.declared.token.Token.{Token}
 use Rattle.grammar.specs.declared.token.Token.TheVariants.{Open, Close, Name, With, Not, And, Or, Then}
 use Rattle.grammar.specs.Words.{weight, words, Rising}
-use Rattle.reading.specs.Bytes.{Word, with, not, and, or, then, tight}
+use Rattle.reading.specs.Bytes.{with, not, and, or, then}
 use Rattle.reading.specs.Spells.{TokenAt, opens, closes, word, name, Spelt, here, space, token}
 
 pub weight_most : (k : Token) → weight k ≤ 1

@@ -1,11 +1,11 @@
 -- Decoding, as computed and as the rule says, for any list of spellings.
-use Rattle.std.proofs.Common.{◌≡◌, ℕ, zero, suc, ◌+◌, ◌<◌, ◌≤◌, Bool, true, false, cond, eqb, List, [], ◌∷◌, ◌++◌, length, drop, Some, None, Option, sym, refl, ap, ◌∙◌, subst, ⊎_elim, zero-add, arith}
+use Rattle.std.proofs.Common.{◌≡◌, ℕ, zero, suc, ◌+◌, ◌≤◌, Bool, true, false, cond, eqb, List, [], ◌∷◌, ◌++◌, length, drop, Some, None, Option, sym, refl, ap, ◌∙◌, subst, zero-add, arith}
 use mathlib.Core.Bool.{false≢true}
 use Rattle.std.proofs.lemmas.Bool.{eqb-true, cond-true, cond-false}
-use Rattle.reading.specs.Bytes.{either, plain}
-use Rattle.reading.specs.Decoding.{starts, first_of, NameEnds, Runs, stops, itself, ampersand, reference}
+use Rattle.reading.specs.Bytes.{plain}
+use Rattle.reading.specs.Decoding.{starts, first_of, Runs, stops, itself, ampersand, reference}
 use Rattle.reading.specs.Scan.{behind, extra, decoded}
-use Rattle.reading.proofs.Tests.{inv_cond, both_cases, either_none, neither, unlike}
+use Rattle.reading.proofs.Tests.{both_cases, either_none, neither, unlike}
 
 pub starts_is : (xs bs : List ℕ) → starts xs bs ≡ true → (bs ≡ xs ++ drop (length xs) bs) × (length xs ≤ length bs)
 starts_is [] bs e = (refl, omega arith)

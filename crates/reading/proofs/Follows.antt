@@ -1,5 +1,5 @@
 -- What is spelt is found, and what is wrong is found to be wrong.
-use Rattle.std.proofs.Common.{◌≡◌, ℕ, zero, suc, ◌+◌, ◌<◌, ◌≤◌, Bool, true, false, cond, ◌≢◌, List, [], ◌∷◌, ◌++◌, length, drop, Ok, Err, sym, refl, ap, ◌∙◌, subst, append_assoc, append-nil, add-zero, arith}
+use Rattle.std.proofs.Common.{◌≡◌, ℕ, zero, suc, ◌+◌, ◌≤◌, Bool, true, false, ◌≢◌, List, [], ◌∷◌, ◌++◌, length, drop, Ok, Err, sym, refl, ap, ◌∙◌, subst, append_assoc, append-nil, add-zero, arith}
 use mathlib.Core.Bool.{false≢true}
 use Rattle.std.proofs.lemmas.Bool.{cond-true, cond-false}
 use Rattle.std.proofs.lemmas.List.{length-drop}
@@ -9,14 +9,14 @@ use Rattle.grammar.specs.declared.token.Token.{Token}
 use Rattle.grammar.specs.Automaton.{step, run, ended}
 use Rattle.grammar.proofs.Prefixes.{run_lost}
 use Rattle.reading.specs.Bytes.{edge, tight}
-use Rattle.reading.specs.Spells.{TokenAt, LongName, Apart, Spelt, here, space, token}
+use Rattle.reading.specs.Spells.{TokenAt, Apart, Spelt, here, space, token}
 use Rattle.reading.specs.Faults.{Cause, not_apart, no_token, long_name, out_of_grammar, unfinished}
 use Rattle.reading.specs.declared.fault.RuleFault.{RuleFault}
-use Rattle.reading.specs.declared.fault.RuleFault.TheVariants.{Text, OutOfGrammar}
-use Rattle.reading.specs.declared.fault.TextFault.TheVariants.{WrongByte, NameTooLong}
+use Rattle.reading.specs.declared.fault.RuleFault.TheVariants.{Text}
+use Rattle.reading.specs.declared.fault.TextFault.TheVariants.{WrongByte}
 use Rattle.reading.specs.Scan.{Lexeme, none, over, got, Kind, gap, opening, closing, small, big, strange, kind, lexeme, Scanned, prefixed, allowed, Go, taken, moved, scan_from}
 use Rattle.reading.proofs.Tests.{inner, solid, edge_inner, inner_edge, space_gap, no_gap, upper_kind}
-use Rattle.reading.proofs.Tokens.{Found, found, Lexed, lexed, long_over}
+use Rattle.reading.proofs.Tokens.{Found, found, lexed, long_over}
 use Rattle.reading.proofs.Outcomes.{Explained}
 
 -- the bytes of a token are passed over

@@ -1,9 +1,9 @@
 -- One step of a loop over the letters of a word, and over the bytes of a name.
-use Rattle.std.proofs.Common.{◌≡◌, ℕ, zero, suc, ◌+◌, ◌-◌, ◌<◌, ◌≤◌, Bool, true, false, cond, eqb, leb, List, [], ◌∷◌, ◌++◌, length, get_or, take, drop, Some, None, Option, sym, refl, ap, ◌∙◌, subst, arith}
+use Rattle.std.proofs.Common.{◌≡◌, ℕ, suc, ◌+◌, ◌<◌, ◌≤◌, true, false, eqb, List, [], ◌∷◌, length, get_or, drop, Some, ap, ◌∙◌, arith}
 use mathlib.Core.Bool.{false≢true}
-use Rattle.std.proofs.lemmas.Bool.{cond-true, cond-false, eqb-true, le-leb}
+use Rattle.std.proofs.lemmas.Bool.{cond-true, cond-false}
 use Rattle.std.proofs.lemmas.List.{drop_more, at_drop_all}
-use Rattle.reading.specs.Bytes.{both, either, lower, plain}
+use Rattle.reading.specs.Bytes.{either, lower, plain}
 use Rattle.reading.specs.Lexing.{amp, letter_of}
 use Rattle.reading.specs.Scan.{run_of}
 

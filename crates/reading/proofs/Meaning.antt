@@ -1,23 +1,19 @@
 -- The reading that is worked out is the one that the grammar gives, and no other answer is.
-use Rattle.std.proofs.Common.{◌≡◌, ℕ, ◌<◌, ◌≤◌, Bool, true, false, cond, ltb, ◌≢◌, List, [], ◌∷◌, length, Ok, Err, sym, refl, ap, ◌∙◌, subst, zero-add, arith}
+use Rattle.std.proofs.Common.{◌≡◌, ℕ, ◌≤◌, Bool, true, false, cond, ltb, List, length, Ok, Err, sym, refl, ap, ◌∙◌, subst, zero-add, arith}
 use Rattle.std.proofs.lemmas.Bool.{cond-true, cond-false, ltb-true, ltb-false, lt-ltb, le-ltb}
 use Rattle.grammar.specs.declared.level.Level.TheVariants.{Rule}
-use Rattle.grammar.specs.declared.state.State.TheVariants.{WantPart, Lost}
+use Rattle.grammar.specs.declared.state.State.TheVariants.{WantPart}
 use Rattle.grammar.specs.declared.token.Token.{Token}
-use Rattle.grammar.specs.Automaton.{run, ended}
 use Rattle.grammar.specs.Grammar.{Is}
 use Rattle.grammar.specs.Names.{Phrase}
 use Rattle.grammar.specs.Words.{words}
 use Rattle.grammar.specs.Parser.{parse}
-use Rattle.grammar.specs.Readings.{reading_of}
 use Rattle.grammar.proofs.Complete.{accepts, parsed}
 use Rattle.grammar.proofs.Sound.{derived}
 use Rattle.reading.specs.Answers.{Answer, Answers, too_long, faulty, too_many, taken}
-use Rattle.reading.specs.Faults.{Faulty}
 use Rattle.reading.specs.Reading.{from_parse, from_scan, reading}
-use Rattle.reading.specs.Scan.{Scanned, scan_from, scanned}
+use Rattle.reading.specs.Scan.{Scanned, scanned}
 use Rattle.reading.specs.Spells.{Spells}
-use Rattle.reading.specs.declared.fault.RuleFault.{RuleFault}
 use Rattle.reading.specs.declared.fault.RuleFault.TheVariants.{Text, TooManyNodes}
 use Rattle.reading.specs.declared.fault.TextFault.TheVariants.{LineTooLong}
 use Rattle.reading.proofs.Outcomes.{Outcome, outcome, want_lives}

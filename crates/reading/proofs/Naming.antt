@@ -1,15 +1,13 @@
 -- The loop that reads a name.
-use Rattle.std.proofs.Common.{◌≡◌, ℕ, zero, suc, ◌+◌, ◌<◌, ◌≤◌, Bool, true, false, cond, eqb, leb, ◌⊎◌, List, [], ◌∷◌, ◌++◌, length, drop, set, Some, None, Option, sym, refl, ap, ◌∙◌, subst, ⊎_elim, append_assoc, append-nil, arith, length-append}
-use mathlib.Core.Bool.{false≢true}
+use Rattle.std.proofs.Common.{◌≡◌, ℕ, zero, suc, ◌+◌, ◌<◌, ◌≤◌, Bool, true, false, cond, eqb, leb, List, [], ◌∷◌, ◌++◌, length, drop, set, Some, None, Option, sym, refl, ap, ◌∙◌, subst, append_assoc, append-nil, arith, length-append}
 use Rattle.std.proofs.lemmas.Bool.{cond-true, cond-false, eqb-true, le-leb}
 use Rattle.std.proofs.lemmas.List.{length-drop}
 use Rattle.grammar.specs.Names.{pad}
 use Rattle.grammar.proofs.Padding.{pad_set, pad_full}
 use Rattle.reading.specs.Bytes.{both, either, plain}
-use Rattle.reading.specs.Decoding.{spellings, starts, first_of}
+use Rattle.reading.specs.Decoding.{spellings, starts}
 use Rattle.reading.specs.Scan.{behind, extra, decoded}
 use Rattle.reading.specs.Lexing.{amp, letter_of}
-use Rattle.reading.proofs.Tests.{both_cases, either_cases}
 use Rattle.reading.proofs.Decoded.{starts_is, decoded_skip}
 
 -- the test for `&amp;` by places, as a test of the list

@@ -1,6 +1,6 @@
 -- The public call: each way out is the answer that is worked out.
 use Rattle.std.proofs.Common.{◌≡◌, ℕ, ◌<◌, ◌≤◌, Bool, true, false, cond, ltb, List, length, IsSomeAnd, Some, None, Ok, Err, Option, Result, sym, refl, ap, ◌∙◌, subst, zero-add, arith}
-use Rattle.std.proofs.lemmas.Bool.{cond-true, cond-false, ltb-true, ltb-false, lt-ltb, le-ltb}
+use Rattle.std.proofs.lemmas.Bool.{cond-true, cond-false, ltb-false, lt-ltb, le-ltb}
 use Rattle.grammar.specs.declared.state.State.TheVariants.{WantPart}
 use Rattle.grammar.specs.declared.token.Token.{Token}
 use Rattle.grammar.specs.Automaton.{accepted}

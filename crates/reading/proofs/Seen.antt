@@ -1,5 +1,5 @@
 -- The token that comes first, as the program finds it.
-use Rattle.std.proofs.Common.{◌≡◌, ℕ, zero, suc, ◌+◌, ◌<◌, ◌≤◌, Bool, true, false, cond, leb, List, [], ◌∷◌, length, get_or, take, drop, Some, None, Ok, Err, Option, Result, sym, refl, ap, ◌∙◌, arith}
+use Rattle.std.proofs.Common.{◌≡◌, ℕ, suc, ◌+◌, ◌<◌, ◌≤◌, true, List, [], ◌∷◌, length, get_or, take, drop, Some, None, Ok, Err, Option, Result, sym, refl, ap, ◌∙◌, arith}
 use Rattle.std.proofs.lemmas.Bool.{cond-true, cond-false, le-leb, lt-leb}
 use Rattle.std.proofs.lemmas.List.{take_at}
 use Rattle.grammar.specs.declared.name.Name.{Name as Stored}
@@ -8,7 +8,7 @@ use Rattle.grammar.specs.declared.token.Token.TheVariants.{Name}
 use Rattle.grammar.specs.Names.{pad, stored}
 use Rattle.reading.specs.Bytes.{lower, upper, Word, word_token}
 use Rattle.reading.specs.Decoding.{spellings}
-use Rattle.reading.specs.Scan.{run_of, word_of, decoded, kind, worded, name_lexeme, lexeme}
+use Rattle.reading.specs.Scan.{run_of, word_of, decoded, worded, name_lexeme, lexeme}
 use Rattle.reading.specs.Lexing.{word_at, seen, seen_at}
 use Rattle.reading.specs.declared.fault.TextFault.{TextFault}
 use Rattle.reading.specs.declared.fault.TextFault.TheVariants.{WrongByte, NameTooLong}

@@ -1,21 +1,19 @@
 -- One step of the scanner's loop.
-use Rattle.std.proofs.Common.{◌≡◌, ℕ, zero, suc, ◌+◌, ◌-◌, ◌<◌, ◌≤◌, Bool, true, false, cond, eqb, ◌≢◌, List, [], ◌∷◌, ◌++◌, length, get_or, drop, Ok, Err, Result, sym, refl, ap, ◌∙◌, subst, append-nil, arith}
+use Rattle.std.proofs.Common.{◌≡◌, ℕ, suc, ◌+◌, ◌<◌, ◌≤◌, Bool, true, false, cond, ◌≢◌, List, [], ◌∷◌, ◌++◌, length, get_or, drop, Ok, Err, Result, sym, refl, ap, ◌∙◌, subst, append-nil, arith}
 use mathlib.Core.Bool.{false≢true}
-use Rattle.std.proofs.lemmas.Bool.{cond-true, cond-false}
 use Rattle.std.proofs.lemmas.List.{drop_more, drop-drop, drop_all}
 use Rattle.grammar.specs.declared.token.Token.{Token}
-use Rattle.grammar.specs.declared.token.Token.TheVariants.{Open, Close, Name, With, Not, And, Or, Then}
 use Rattle.grammar.specs.declared.state.State.{State}
 use Rattle.grammar.specs.declared.state.State.TheVariants.{WantPart, HaveName, WantName, HavePart, Lost}
-use Rattle.grammar.specs.Automaton.{step, ended, depth}
+use Rattle.grammar.specs.Automaton.{step, ended}
 use Rattle.reading.specs.declared.fault.RuleFault.{RuleFault}
 use Rattle.reading.specs.declared.fault.RuleFault.TheVariants.{Text, OutOfGrammar}
 use Rattle.reading.specs.declared.fault.TextFault.{TextFault}
-use Rattle.reading.specs.declared.fault.TextFault.TheVariants.{WrongByte, NameTooLong}
+use Rattle.reading.specs.declared.fault.TextFault.TheVariants.{WrongByte}
 use Rattle.reading.specs.Bytes.{edge, tight}
-use Rattle.reading.specs.Scan.{gap, kind, Lexeme, none, over, got, lexeme, Scanned, prefixed, allowed, taken, moved, scan_from}
+use Rattle.reading.specs.Scan.{gap, kind, Lexeme, none, over, got, lexeme, Scanned, prefixed, allowed, taken, scan_from}
 use Rattle.reading.specs.Spells.{Apart}
-use Rattle.reading.specs.Lexing.{seen, seen_at, edge_first, checked_at, given_of}
+use Rattle.reading.specs.Lexing.{seen, seen_at, checked_at, given_of}
 use Rattle.reading.proofs.Tests.{space_gap}
 use Rattle.reading.proofs.Tokens.{Found, found}
 use Rattle.reading.proofs.Follows.{skipped, step_taken, step_wrong, prefixed_twice}

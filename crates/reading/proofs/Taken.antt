@@ -1,25 +1,22 @@
 -- What is known of every line that is taken.
-use Rattle.std.proofs.Common.{◌≡◌, ℕ, zero, suc, ◌<◌, ◌≤◌, Bool, true, false, eqb, leb, ◌⊎◌, List, [], ◌∷◌, length, Ok, Err, Result, sym, refl, ap, ◌∙◌, subst, ⊎_elim, arith}
+use Rattle.std.proofs.Common.{◌≡◌, ℕ, ◌<◌, ◌≤◌, Bool, true, eqb, leb, List, [], ◌∷◌, length, Ok, Err, sym, refl, ap, ◌∙◌, subst, ⊎_elim, arith}
 use Rattle.std.proofs.lemmas.Bool.{cases_lt, leb-true, eqb-true}
 use Rattle.std.specs.List.{AllByRecursion as All}
-use Rattle.formula.specs.Formulas.{nodes_of, formula_tree}
+use Rattle.formula.specs.Formulas.{formula_tree}
 use Rattle.formula.specs.Tree.{size}
-use Rattle.formula.specs.Table.{tree_of, post}
 use Rattle.formula.proofs.Growth.{post_length}
 use Rattle.grammar.specs.declared.level.Level.TheVariants.{Rule}
 use Rattle.grammar.specs.declared.line.Line.{Line}
-use Rattle.grammar.specs.declared.name.Named.{Named}
 use Rattle.grammar.specs.declared.token.Token.{Token}
-use Rattle.grammar.specs.declared.token.Token.TheVariants.{Open, Close, Name, With, Not, And, Or, Then}
 use Rattle.grammar.specs.Grammar.{Is}
-use Rattle.grammar.specs.Names.{Phrase, stored, listed, names_of, EachOnce, Decoded}
+use Rattle.grammar.specs.Names.{Phrase, listed, names_of, EachOnce}
 use Rattle.grammar.specs.Readings.{Reading, said, reading_of}
 use Rattle.grammar.specs.Words.{words, token_names}
 use Rattle.grammar.proofs.Numbering.{listed_once, listed_all}
 use Rattle.grammar.proofs.Said.{size_numbered, word_nodes, names_in_line}
 use Rattle.reading.specs.Answers.{Answer, Answers, too_long, faulty, too_many, taken}
-use Rattle.reading.specs.Bytes.{both, either, upper, plain, Word, with, not, and, or, then}
-use Rattle.reading.specs.Decoding.{spellings, Runs, stops, itself, ampersand, reference}
+use Rattle.reading.specs.Bytes.{both, either, upper, plain, with, not, and, or, then}
+use Rattle.reading.specs.Decoding.{Runs, stops, itself, ampersand, reference}
 use Rattle.reading.specs.Lines.{IsStored, WellRead}
 use Rattle.reading.specs.Spells.{Spells, Spelt, here, space, token, TokenAt, opens, closes, word, name}
 use Rattle.reading.specs.declared.fault.RuleFault.{RuleFault}

@@ -1,8 +1,8 @@
 -- Tests of bytes, and what they come to.
-use Rattle.std.proofs.Common.{◌≡◌, ℕ, ◌<◌, ◌≤◌, Bool, true, false, cond, eqb, leb, ◌≢◌, ◌⊎◌, List, [], ◌∷◌, sym, refl, ap, ◌∙◌, subst, inl, inr, ⊎_elim, arith}
+use Rattle.std.proofs.Common.{◌≡◌, ℕ, Bool, true, false, cond, eqb, leb, ◌≢◌, ◌⊎◌, sym, refl, ap, ◌∙◌, subst, inl, inr, ⊎_elim, arith}
 use mathlib.Core.Bool.{false≢true}
 use Rattle.std.proofs.lemmas.Bool.{eqb-true, leb-true, lt-leb, cond-true, cond-false}
-use Rattle.reading.specs.Bytes.{both, either, lower, upper, plain, edge}
+use Rattle.reading.specs.Bytes.{both, either, lower, upper, edge}
 use Rattle.reading.specs.Scan.{Kind, gap, opening, closing, small, big, strange, kind}
 
 pub inv_cond : {X : Type 0} (b : Bool) {x y z : X} → cond b x y ≡ z → ((b ≡ true) × (x ≡ z)) ⊎ ((b ≡ false) × (y ≡ z))

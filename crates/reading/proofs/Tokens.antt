@@ -1,13 +1,12 @@
 -- Tokens as they are found, and as they are spelt.
-use Rattle.std.proofs.Common.{◌≡◌, ℕ, zero, suc, ◌+◌, ◌<◌, ◌≤◌, Bool, true, false, cond, eqb, leb, List, [], ◌∷◌, ◌++◌, length, drop, Some, None, Option, sym, refl, ap, ◌∙◌, subst, ⊎_elim, append-nil, arith}
-use mathlib.Core.Bool.{false≢true}
+use Rattle.std.proofs.Common.{◌≡◌, ℕ, ◌≤◌, Bool, true, false, cond, leb, List, [], ◌∷◌, ◌++◌, length, drop, Some, None, Option, sym, refl, ap, ◌∙◌, subst, ⊎_elim, append-nil, arith}
 use Rattle.std.proofs.lemmas.Bool.{cond-true, cond-false, le-leb, lt-leb, leb-true, leb-false}
 use Rattle.grammar.specs.declared.token.Token.{Token}
 use Rattle.grammar.specs.declared.token.Token.TheVariants.{Open, Close, Name}
 use Rattle.grammar.specs.Names.{same, stored}
 use Rattle.grammar.proofs.Same.{same_is}
 use Rattle.reading.specs.Bytes.{lower, upper, Word, with, not, and, or, then, letters, word_token}
-use Rattle.reading.specs.Decoding.{spellings, Runs}
+use Rattle.reading.specs.Decoding.{spellings}
 use Rattle.reading.specs.Spells.{WordEnds, TokenAt, opens, closes, word, name, LongName}
 use Rattle.reading.specs.Scan.{run_of, word_of, decoded, Lexeme, none, over, got, Kind, gap, opening, closing, small, big, strange, kind, worded, name_lexeme, lexeme}
 use Rattle.reading.proofs.Tests.{inv_cond, upper_kind, OfKind, of_kind, solid}

@@ -4,7 +4,6 @@ use Rattle.formula.specs.declared.node.Pair.{Pair}
 use Rattle.formula.specs.Tree.{Tree, leaf, not, and, or, then}
 use Rattle.grammar.specs.declared.name.Named.{Named}
 use Rattle.grammar.specs.Names.{stored}
-use Rattle.grammar.specs.Readings.{Reading}
 use Rattle.reading.specs.Answers.{Answer}
 use Rattle.reading.specs.Reading.{reading}
 use Rattle.reading.specs.declared.fault.RuleFault.{RuleFault}

@@ -1,5 +1,5 @@
 -- The pass over a line in the program's own steps. Rests on Scan.
-use Rattle.std.specs.Prelude.{ℕ, ◌+◌, Bool, true, false, cond, List, [], ◌∷◌, length, drop, Some, None, Ok, Err, Option, Result, ◌==◌, nat_le, slice_index}
+use Rattle.std.specs.Prelude.{ℕ, ◌+◌, Bool, false, cond, List, [], ◌∷◌, length, drop, Some, None, Ok, Err, Option, Result, ◌==◌, nat_le, slice_index}
 use Rattle.formula.specs.Held.{held}
 use Rattle.formula.specs.declared.bounded.Bounded.{Bounded}
 use Rattle.grammar.specs.declared.state.State.{State}

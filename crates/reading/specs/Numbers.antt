@@ -1,6 +1,5 @@
 -- The number, the carried number and the layer of each refusal. Rests on nothing.
 use Rattle.std.specs.Prelude.{ℕ, List, codes}
-use Rattle.reading.specs.declared.fault.TextFault.{TextFault}
 use Rattle.reading.specs.declared.fault.TextFault.TheVariants.{LineTooLong, WrongByte, NameTooLong}
 use Rattle.reading.specs.declared.fault.RuleFault.{RuleFault}
 use Rattle.reading.specs.declared.fault.RuleFault.TheVariants.{Text, OutOfGrammar, TooManyNodes}

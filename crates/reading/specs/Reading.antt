@@ -1,7 +1,6 @@
 -- The reading of a line, worked out. Rests on Scan and on Parser and Readings of crate grammar.
 use Rattle.std.specs.Prelude.{ℕ, cond, List, length, Some, None, Ok, Err, Option, Result, nat_lt}
 use Rattle.grammar.specs.declared.line.Line.{Line}
-use Rattle.grammar.specs.declared.token.Token.{Token}
 use Rattle.grammar.specs.Names.{Phrase}
 use Rattle.grammar.specs.Parser.{parse}
 use Rattle.grammar.specs.Readings.{said, reading_of}

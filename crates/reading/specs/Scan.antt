@@ -1,14 +1,13 @@
 -- One pass over a line: its tokens, or its leftmost fault. Rests on Bytes, Decoding and Automaton of crate grammar.
-use Rattle.std.specs.Prelude.{ℕ, zero, suc, ◌+◌, Bool, true, false, cond, List, [], ◌∷◌, ◌++◌, length, Some, None, Ok, Err, Option, Result, ◌==◌, nat_le}
+use Rattle.std.specs.Prelude.{ℕ, zero, suc, ◌+◌, Bool, false, cond, List, [], ◌∷◌, ◌++◌, length, Some, None, Ok, Err, Option, Result, ◌==◌, nat_le}
 use Rattle.grammar.specs.declared.state.State.{State}
 use Rattle.grammar.specs.declared.state.State.TheVariants.{WantPart, HaveName, WantName, HavePart, Lost}
 use Rattle.grammar.specs.declared.token.Token.{Token}
 use Rattle.grammar.specs.declared.token.Token.TheVariants.{Open, Close, Name}
 use Rattle.grammar.specs.Automaton.{step, ended}
 use Rattle.grammar.specs.Names.{same, stored}
-use Rattle.reading.specs.Bytes.{both, either, lower, upper, plain, edge, Word, with, not, and, or, then, letters, word_token, tight}
+use Rattle.reading.specs.Bytes.{lower, upper, plain, Word, with, not, and, or, then, letters, word_token, tight}
 use Rattle.reading.specs.Decoding.{spellings, first_of}
-use Rattle.reading.specs.declared.fault.TextFault.{TextFault}
 use Rattle.reading.specs.declared.fault.TextFault.TheVariants.{WrongByte, NameTooLong}
 use Rattle.reading.specs.declared.fault.RuleFault.{RuleFault}
 use Rattle.reading.specs.declared.fault.RuleFault.TheVariants.{Text, OutOfGrammar}

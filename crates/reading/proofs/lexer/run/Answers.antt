@@ -1,4 +1,4 @@
-use Rattle.std.proofs.Common.{◌≡◌, sym, ◌∙◌, arith}
+use Rattle.std.proofs.Common.{sym, arith}
 use Rattle.reading.proofs.Letters.{run_step, run_stop, run_end}
 use Rattle.reading.proofs.lexer.run.Goals as goal
 

@@ -1,4 +1,4 @@
-use Rattle.std.proofs.Common.{◌≡◌, ℕ, ◌≤◌, true, List, length, IsSomeAnd, IfOk, Ok, Err, sym, ap, ◌∙◌, subst, arith}
+use Rattle.std.proofs.Common.{◌≡◌, ◌≤◌, List, IsSomeAnd, IfOk, Err, sym, ap, ◌∙◌, subst, arith}
 use Rattle.std.proofs.lemmas.Result.{err_from_is_err_and}
 use Rattle.formula.specs.Held.{held}
 use Rattle.grammar.specs.declared.token.Token.{Token}
@@ -25,10 +25,10 @@ returns-in_err-tokens c =
     let o = subst (Owed c.args.line.now) (sym (ap shown p.1 ∙ ap Err p.2)) (wrong c.args.line.now l c.in_err-tokens.field-0.0 c.in_err-tokens.ensures) in
     record { exact = o.0; meaning = o.1; well_read = subst (λ r. IfOk r (λ l. WellRead c.args.line.now l)) (sym p.1) tt; only = o.2 }
 
-pub returns-then-words-gt-MAX-NODES : goal.returns-then-words-gt-MAX-NODES
-returns-then-words-gt-MAX-NODES c =
+pub returns-then-words-gt-MAX_NODES : goal.returns-then-words-gt-MAX_NODES
+returns-then-words-gt-MAX_NODES c =
     let l = fits c.args.line.now (sym c.in_ok-measure.ensures) in
-    let o = many c.args.line.now l (held c.in_ok-tokens.tokens) c.in_ok-tokens.ensures c.count_words-words.result (c.count_words-words.ensures ∙ ap words c.items.ensures) c.if-words-gt-MAX-NODES.true in
+    let o = many c.args.line.now l (held c.in_ok-tokens.tokens) c.in_ok-tokens.ensures c.count_words-words.result (c.count_words-words.ensures ∙ ap words c.items.ensures) c.if-words-gt-MAX_NODES.true in
     record { exact = o.0; meaning = o.1; well_read = tt; only = o.2 }
 
 pub build-requires : goal.build-requires
@@ -37,14 +37,14 @@ build-requires c =
     let w = well c.args.line.now l (held c.in_ok-tokens.tokens) c.in_ok-tokens.ensures in
     record {
       rule = ap accepted c.items-2.ensures ∙ w.0;
-      few = omega (arith, ap words c.items-2.ensures, ap words c.items.ensures, c.count_words-words.ensures, c.if-words-gt-MAX-NODES.false);
+      few = omega (arith, ap words c.items-2.ensures, ap words c.items.ensures, c.count_words-words.ensures, c.if-words-gt-MAX_NODES.false);
       placed = subst (Rising 0 512) (sym c.items-2.ensures) w.1;
     }
 
 pub returns : goal.returns
 returns c =
     let l = fits c.args.line.now (sym c.in_ok-measure.ensures) in
-    let few : words (held c.in_ok-tokens.tokens) ≤ 32 = omega (arith, ap words c.items.ensures, c.count_words-words.ensures, c.if-words-gt-MAX-NODES.false) in
+    let few : words (held c.in_ok-tokens.tokens) ≤ 32 = omega (arith, ap words c.items.ensures, c.count_words-words.ensures, c.if-words-gt-MAX_NODES.false) in
     let o = said_so c.args.line.now l (held c.in_ok-tokens.tokens) c.in_ok-tokens.ensures (said c.build.result) few
     (subst (λ (ts : List Token). IsSomeAnd (parse ts) (λ t. said c.build.result ≡ reading_of t)) c.items-2.ensures c.build.ensures) in
     record { exact = o.0; meaning = o.1; well_read = well_read c.args.line.now c.build.result o; only = o.2 }

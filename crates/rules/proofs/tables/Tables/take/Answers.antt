@@ -14,8 +14,8 @@ use Rattle.rules.proofs.MarkedRows.{entries_length}
 use Rattle.rules.proofs.TakenLines.{take_full, take_refused, take_done, took, made_over, rule_added, still_among}
 use Rattle.rules.proofs.tables.Tables.take.Goals as goal
 
-pub returns-then-self-ge-MAX-RULES : goal.returns-then-self-ge-MAX-RULES
-returns-then-self-ge-MAX-RULES c =
+pub returns-then-self-ge-MAX_RULES : goal.returns-then-self-ge-MAX_RULES
+returns-then-self-ge-MAX_RULES c =
     let t = c.args.self.now in
     let size = entries_length t.given t.rows t.wide t.few in
     let e = take_full (entered t) (said c.args.line.now) (omega arith) in
@@ -43,12 +43,11 @@ invariant_of-self c =
     let ls = lots_in t.lots in
     let ms = lots_in c.in_ok-lots.lots in
     let s = sym (c.in_ok-lots.ensures ∙ ap (lots_added ls) c.names-names.ensures) in
-    let tree = made_over c.new.result c.over_lots-formula.result c.formula.result.now ms c.names-names.result.now l c.new.ensures.formula c.over_lots-formula.ensures c.names-names.ensures c.formula.ensures in (
-      omega arith,
-      (
-        ap length c.put.ensures ∙ length-set t.rows.rows t.given c.new.result ∙ t.wide,
-        (
-          still_among t.given t.rows c.put.new.self c.new.result ls ms l t.wide (omega arith) c.put.ensures tree c.new.ensures.mark s c.args.line.now.named t.over,
+    let tree = made_over c.new.result c.over_lots-formula.result c.formula.result.now ms c.names-names.result.now l c.new.ensures.formula c.over_lots-formula.ensures c.names-names.ensures c.formula.ensures in
+    record {
+      few = omega arith;
+      wide = ap length c.put.ensures ∙ length-set t.rows.rows t.given c.new.result ∙ t.wide;
+      over = still_among t.given t.rows c.put.new.self c.new.result ls ms l t.wide (omega arith) c.put.ensures tree c.new.ensures.mark s c.args.line.now.named t.over,
           tt,
         ),
       ),
