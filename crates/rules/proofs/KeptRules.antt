@@ -1,5 +1,5 @@
 -- Whether a rule is kept depends on the numbers of its lots alone.
-use Rattle.std.proofs.Common.{◌≡◌, ℕ, ◌≤◌, Bool, true, ◌&&◌, eqb, sym, refl, ap, ◌∙◌, ap₂}
+use Rattle.std.proofs.Common.{◌≡◌, ℕ, Bool, true, eqb, ap, ap₂}
 use Rattle.std.proofs.lemmas.Bool.{and_parts}
 use Rattle.formula.specs.declared.node.Pair.{Pair}
 use Rattle.formula.specs.Ops.{Ops}

@@ -1,5 +1,5 @@
 -- Tests that all leaves of a table pass, as all atoms of its tree do.
-use Rattle.std.proofs.Common.{◌≡◌, ℕ, zero, suc, ◌<◌, Bool, true, false, ◌&&◌, List, [], ◌∷◌, ◌++◌, length, get_or, sym, refl, ap, ◌∙◌, ap₂, arith}
+use Rattle.std.proofs.Common.{◌≡◌, ℕ, zero, suc, ◌<◌, Bool, true, ◌&&◌, List, [], ◌∷◌, ◌++◌, length, get_or, sym, refl, ap, ◌∙◌, ap₂, arith}
 use mathlib.Core.Bool.{and_assoc, and-true}
 use Rattle.std.proofs.lemmas.Bool.{and_parts}
 use Rattle.formula.specs.declared.node.Node.{Node}

@@ -8,7 +8,7 @@ use Rattle.rules.specs.declared.rows.Rows.{Rows}
 use Rattle.rules.specs.declared.rule.Rule.{Rule}
 use Rattle.rules.specs.Entered.{entry_of, entries_in}
 use Rattle.rules.specs.Entries.{Entry, Entries, rules_in_force, all_among}
-use Rattle.rules.specs.Items.{place_of, altered, altered_item}
+use Rattle.rules.specs.Items.{place_of, altered}
 use Rattle.rules.specs.Leaves.{among}
 use Rattle.rules.specs.Marks.{with_mark, row_marked}
 use Rattle.rules.specs.Striking.{marked, mark_set}

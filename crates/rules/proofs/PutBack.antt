@@ -1,12 +1,11 @@
 -- A mark that is set and then put back.
-use Rattle.std.proofs.Common.{◌≡◌, ℕ, zero, suc, ◌≤◌, Bool, true, false, cond, leb, List, [], ◌∷◌, map, length, take, Some, None, sym, refl, ap, ◌∙◌, ap₂, arith}
+use Rattle.std.proofs.Common.{◌≡◌, ℕ, zero, suc, ◌≤◌, Bool, true, false, cond, leb, List, [], ◌∷◌, map, length, take, Some, sym, refl, ap, ◌∙◌, ap₂, arith}
 use mathlib.Core.Bool.{Bool-set}
 use mathlib.Core.HLevel.{is_prop→PathP}
 use native.Mathlib.Bridge.{le_prop}
 use native.Mathlib.Nat.{ℕ_set}
 use Rattle.std.specs.List.{slice_get}
 use Rattle.std.specs.Option.{option_map}
-use Rattle.rules.specs.declared.rows.Rows.{Rows}
 use Rattle.rules.specs.declared.rule.Rule.{Rule}
 use Rattle.rules.specs.declared.tables.Tables.{Tables}
 use Rattle.rules.specs.Asking.{mark_at}
@@ -15,7 +14,7 @@ use Rattle.rules.specs.Entries.{Entry, all_among}
 use Rattle.rules.specs.Items.{item, altered_item}
 use Rattle.rules.specs.LotNames.{lots_in}
 use Rattle.rules.specs.Marks.{with_mark, row_marked}
-use Rattle.rules.specs.StrikingLaws.{MarkedFields, PutBack}
+use Rattle.rules.specs.StrikingLaws.{PutBack}
 use Rattle.rules.proofs.Altered.{altered_back}
 
 -- tables with equal fields are equal, whatever shows their invariant

@@ -1,5 +1,5 @@
 -- What the answer of a call that may be refused tells of its outcome.
-use Rattle.std.proofs.Common.{◌≡◌, ℕ, Ok, Err, Result, sym, refl, ap, ◌∙◌, arith}
+use Rattle.std.proofs.Common.{◌≡◌, ℕ, Ok, Err, Result, sym, ap, arith}
 use Rattle.rules.specs.Outcomes.{done, settled}
 
 -- it was refused

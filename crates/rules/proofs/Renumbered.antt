@@ -1,8 +1,8 @@
 -- The table of a tree over other atoms.
-use Rattle.std.proofs.Common.{◌≡◌, ℕ, suc, ◌≤◌, Bool, true, ◌&&◌, ltb, leb, List, [], ◌∷◌, ◌++◌, map, length, take, sym, refl, ap, ◌∙◌, ap₂}
+use Rattle.std.proofs.Common.{◌≡◌, ℕ, suc, ◌≤◌, true, ◌&&◌, ltb, leb, List, [], ◌∷◌, ◌++◌, map, length, take, sym, refl, ap, ◌∙◌, ap₂}
 use Rattle.std.proofs.lemmas.List.{map-append, take_all}
 use Rattle.formula.specs.declared.node.Node.{Node}
-use Rattle.formula.specs.declared.node.Node.TheVariants.{Leaf, Not, And, Or, Then}
+use Rattle.formula.specs.declared.node.Node.TheVariants.{Not, And, Or, Then}
 use Rattle.formula.specs.declared.node.Pair.{Pair}
 use Rattle.formula.specs.Table.{top, post, tree_of, pair_place}
 use Rattle.formula.specs.Tree.{Tree, leaf, not, and, or, then, map_tree, map_pair, spans}

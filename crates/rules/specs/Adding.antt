@@ -1,9 +1,9 @@
 -- Lots that the names of a line add. Rests on Numbers and Outcomes.
-use Rattle.std.specs.Prelude.{ℕ, cond, List, [], ◌∷◌, ◌++◌, length, Ok, Err, Result, nat_lt}
+use Rattle.std.specs.Prelude.{cond, List, [], ◌∷◌, ◌++◌, length, Ok, Err, Result, nat_lt}
 use Rattle.grammar.specs.declared.name.Name.{Name}
 use Rattle.grammar.specs.declared.name.Named.{Named}
 use Rattle.rules.specs.declared.fault.TakeFault.{TakeFault}
-use Rattle.rules.specs.declared.fault.TakeFault.TheVariants.{RulesFull, LotsFull}
+use Rattle.rules.specs.declared.fault.TakeFault.TheVariants.{LotsFull}
 use Rattle.rules.specs.Numbers.{is_lot}
 use Rattle.rules.specs.Outcomes.{and_then}
 

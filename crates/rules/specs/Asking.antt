@@ -1,5 +1,5 @@
 -- What can be asked of the tables. Rests on Entries, Items and Keeping.
-use Rattle.std.specs.Prelude.{ℕ, Bool, cond, List, length, Some, None, Option, nat_le}
+use Rattle.std.specs.Prelude.{ℕ, Bool, cond, List, length, None, Option, nat_le}
 use Rattle.std.specs.Option.{option_map}
 use Rattle.formula.specs.declared.node.Pair.{Pair}
 use Rattle.formula.specs.Tree.{Tree}

@@ -1,5 +1,5 @@
 -- The tables of lots and rules as plain data. Rests on Tree and Leaves.
-use Rattle.std.specs.Prelude.{ℕ, Bool, true, cond, ◌&&◌, List, [], ◌∷◌, ◌++◌}
+use Rattle.std.specs.Prelude.{ℕ, Bool, true, cond, ◌&&◌, List, [], ◌∷◌}
 use Rattle.formula.specs.declared.node.Pair.{Pair}
 use Rattle.formula.specs.Tree.{Tree}
 use Rattle.grammar.specs.declared.name.Name.{Name}

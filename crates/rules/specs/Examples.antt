@@ -7,7 +7,6 @@ use Rattle.reading.specs.Answers.{Answer}
 use Rattle.reading.specs.Reading.{reading}
 use Rattle.rules.specs.declared.fault.TakeFault.{TakeFault}
 use Rattle.rules.specs.declared.fault.TakeFault.TheVariants.{RulesFull, LotsFull}
-use Rattle.rules.specs.declared.fault.StrikeFault.{StrikeFault}
 use Rattle.rules.specs.declared.fault.StrikeFault.TheVariants.{NeverGiven, StruckBefore}
 use Rattle.rules.specs.Asking.{keep_answer}
 use Rattle.rules.specs.Entries.{Entries, no_entries, rules_in_force}

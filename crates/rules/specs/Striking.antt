@@ -1,5 +1,5 @@
 -- Striking a rule. Rests on Entries and Items.
-use Rattle.std.specs.Prelude.{ℕ, Bool, false, cond, List, length, Some, None, Ok, Err, Option, Result}
+use Rattle.std.specs.Prelude.{ℕ, Bool, false, cond, length, Some, None, Ok, Err, Option, Result}
 use Rattle.rules.specs.declared.fault.StrikeFault.{StrikeFault}
 use Rattle.rules.specs.declared.fault.StrikeFault.TheVariants.{NeverGiven, StruckBefore}
 use Rattle.rules.specs.Entries.{Entry, Entries}

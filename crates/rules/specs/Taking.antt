@@ -5,7 +5,7 @@ use Rattle.grammar.specs.Readings.{Reading}
 use Rattle.rules.specs.declared.fault.TakeFault.{TakeFault}
 use Rattle.rules.specs.declared.fault.TakeFault.TheVariants.{RulesFull}
 use Rattle.rules.specs.Adding.{lots_added}
-use Rattle.rules.specs.Entries.{Entry, Entries}
+use Rattle.rules.specs.Entries.{Entries}
 use Rattle.rules.specs.OverLots.{tree_over_lots}
 use Rattle.rules.specs.Outcomes.{and_then}
 

@@ -1,5 +1,5 @@
 -- What holds after an accepted line (statements). Rests on Entries, Items and OverLots.
-use Rattle.std.specs.Prelude.{◌≡◌, ℕ, ◌<◌, ◌≤◌, List, [], ◌∷◌, ◌++◌, length, take, Some, slice_index_or}
+use Rattle.std.specs.Prelude.{◌≡◌, ℕ, ◌<◌, ◌≤◌, [], ◌∷◌, ◌++◌, length, take, Some, slice_index_or}
 use Rattle.grammar.specs.Names.{nobody}
 use Rattle.grammar.specs.Readings.{Reading}
 use Rattle.rules.specs.Entries.{Entries, rules_in_force}

@@ -1,5 +1,4 @@
 -- What a program's tables hold, as plain data. Rests on Entered and LotNames.
-use Rattle.std.specs.Prelude.{ℕ}
 use Rattle.rules.specs.declared.tables.Tables.{Tables}
 use Rattle.rules.specs.Entered.{entries_in}
 use Rattle.rules.specs.Entries.{Entries}

@@ -1,9 +1,8 @@
-use Rattle.std.proofs.Common.{◌≡◌, ℕ, ◌-◌, ◌≤◌, true, false, List, length, sym, ap, ◌∙◌, arith}
+use Rattle.std.proofs.Common.{◌≡◌, ℕ, ◌-◌, ◌≤◌, true, List, length, ap, ◌∙◌, arith}
 use Rattle.std.proofs.lemmas.Bool.{and_from, le-leb}
 use Rattle.formula.specs.declared.node.Node.{Node}
 use Rattle.formula.specs.declared.node.Pair.{Pair}
-use Rattle.formula.specs.Evaluation.{ready}
-use Rattle.formula.specs.Formulas.{nodes_of, formula_tree}
+use Rattle.formula.specs.Formulas.{nodes_of}
 use Rattle.formula.specs.Scales.{two}
 use Rattle.formula.specs.Table.{tree_of, blank, node_tree}
 use Rattle.formula.specs.Truth.{truth}

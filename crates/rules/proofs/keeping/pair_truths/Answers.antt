@@ -1,4 +1,4 @@
-use Rattle.std.proofs.Common.{◌≡◌, Bool, false, List, length, get_or, sym, ap, ◌∙◌, arith, length-set}
+use Rattle.std.proofs.Common.{Bool, false, List, length, get_or, sym, ap, ◌∙◌, arith, length-set}
 use Rattle.rules.specs.Keeping.{together, by_lot}
 use Rattle.rules.specs.Leaves.{leaf_passes, pair_among}
 use Rattle.rules.proofs.LeafTests.{leaf_at}

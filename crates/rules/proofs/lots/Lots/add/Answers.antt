@@ -1,4 +1,4 @@
-use Rattle.std.proofs.Common.{◌≡◌, ◌<◌, length, sym, ap, ◌∙◌, arith}
+use Rattle.std.proofs.Common.{◌≡◌, length, sym, ap, ◌∙◌, arith}
 use Rattle.rules.specs.LotNames.{lots_in}
 use Rattle.rules.specs.Numbers.{apart}
 use Rattle.rules.specs.Outcomes.{done, settled}
@@ -10,13 +10,11 @@ pub invariant_of-self : goal.invariant_of-self
 invariant_of-self c =
     let t = c.args.self.now in
     let ls = lots_in t in
-    let k : length c.names-count.result.now ≡ length ls = ap length c.names-count.ensures in (
-      omega arith,
-      (
-        ap apart (written_behind t.names t.count _ c.args.named.name (omega arith) k (omega arith)) ∙ apart_push c.args.named.name ls t.once (omega (arith, c.number_of.ensures)),
-        tt,
-      ),
-    )
+    let k : length c.names-count.result.now ≡ length ls = ap length c.names-count.ensures in
+    record {
+      few = omega arith;
+      once = ap apart (written_behind t.names t.count _ c.args.named.name (omega arith) k (omega arith)) ∙ apart_push c.args.named.name ls t.once (omega (arith, c.number_of.ensures));
+    }
 
 pub returns : goal.returns
 returns c =

@@ -1,4 +1,4 @@
-use Rattle.std.proofs.Common.{◌≡◌, sym, ap, arith}
+use Rattle.std.proofs.Common.{sym, ap, arith}
 use Rattle.rules.specs.Numbers.{lot_of}
 use Rattle.rules.proofs.LotNumbers.{lot_hit, lot_miss, lot_end}
 use Rattle.rules.proofs.lots.Lots.number_of.Goals as goal

@@ -1,6 +1,6 @@
-use Rattle.std.proofs.Common.{◌≡◌, Ok, Err, sym, ap, ◌∙◌, arith}
+use Rattle.std.proofs.Common.{sym, ◌∙◌, arith}
 use Rattle.std.proofs.lemmas.Result.{err_from_is_err_and}
-use Rattle.rules.specs.LotNames.{lots_in, lots_of}
+use Rattle.rules.specs.LotNames.{lots_in}
 use Rattle.rules.proofs.AddedLots.{adding_stops, adding_goes_on, adding_ends}
 use Rattle.rules.proofs.lots.Lots.with.Goals as goal
 

@@ -1,9 +1,7 @@
-use Rattle.std.proofs.Common.{◌≡◌, ℕ, length, Some, sym, ap, ◌∙◌, arith}
+use Rattle.std.proofs.Common.{◌≡◌, length, Some, sym, ap, ◌∙◌, arith}
 use Rattle.std.proofs.lemmas.Bool.{cond-true, le-leb}
 use Rattle.std.specs.Option.{option_map}
-use Rattle.formula.specs.declared.node.Pair.{Pair}
 use Rattle.formula.specs.Formulas.{formula_tree}
-use Rattle.formula.specs.Tree.{Tree}
 use Rattle.rules.specs.Entered.{entries_in}
 use Rattle.rules.specs.Keeping.{by_lot, kept_in}
 use Rattle.rules.specs.LotNames.{lots_in}

@@ -1,4 +1,4 @@
-use Rattle.std.proofs.Common.{◌≡◌, length, Some, None, sym, refl, ap, ◌∙◌}
+use Rattle.std.proofs.Common.{length, sym, refl, ap, ◌∙◌}
 use Rattle.rules.specs.Items.{item}
 use Rattle.rules.specs.Numbers.{no_name}
 use Rattle.rules.proofs.Numbered.{none_there, item_there}

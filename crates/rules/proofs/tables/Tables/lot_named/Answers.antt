@@ -1,4 +1,4 @@
-use Rattle.std.proofs.Common.{◌≡◌, ◌<◌, ◌≤◌, length, sym, ap, ◌∙◌, arith}
+use Rattle.std.proofs.Common.{◌<◌, ◌≤◌, length, sym, arith}
 use Rattle.rules.specs.LotNames.{lots_in}
 use Rattle.rules.specs.Numbers.{lot_of}
 use Rattle.rules.proofs.ApartLots.{found_none, found_some, none_only, some_only}

@@ -1,4 +1,4 @@
-use Rattle.std.proofs.Common.{◌≡◌, length, sym, ap, ◌∙◌, arith}
+use Rattle.std.proofs.Common.{sym, arith}
 use Rattle.rules.specs.Entered.{entry_of, entries_in}
 use Rattle.rules.proofs.MarkedRows.{entries_length}
 use Rattle.rules.proofs.Numbered.{none_there, told_item}

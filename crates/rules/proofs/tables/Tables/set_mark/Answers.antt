@@ -1,6 +1,6 @@
-use Rattle.std.proofs.Common.{◌≡◌, List, length, sym, refl, ap, ◌∙◌, arith}
+use Rattle.std.proofs.Common.{List, length, sym, refl, ap, ◌∙◌}
 use Rattle.rules.specs.Entered.{entries_in}
-use Rattle.rules.specs.Entries.{Entry, Entries, all_among}
+use Rattle.rules.specs.Entries.{Entry, all_among}
 use Rattle.rules.specs.LotNames.{lots_in}
 use Rattle.rules.specs.Marks.{with_mark}
 use Rattle.rules.specs.Striking.{marked}
@@ -15,16 +15,12 @@ pub invariant_of-self : goal.invariant_of-self
 invariant_of-self c =
     let t = c.args.self.now in
     let i = c.in-Some.at in
-    let n = length (lots_in t.lots) in (
-      t.few,
-      (
-        ap length c.set_mark.ensures ∙ length_altered (with_mark c.args.mark) i t.rows.rows ∙ t.wide,
-        (
-          ap (all_among n) (entries_marked t.given i c.args.mark t.rows c.set_mark.new.self c.set_mark.ensures) ∙ among_marked n i c.args.mark (entries_in t.given t.rows) ∙ t.over,
-          tt,
-        ),
-      ),
-    )
+    let n = length (lots_in t.lots) in
+    record {
+      few = t.few;
+      wide = ap length c.set_mark.ensures ∙ length_altered (with_mark c.args.mark) i t.rows.rows ∙ t.wide;
+      over = ap (all_among n) (entries_marked t.given i c.args.mark t.rows c.set_mark.new.self c.set_mark.ensures) ∙ among_marked n i c.args.mark (entries_in t.given t.rows) ∙ t.over;
+    }
 
 pub returns-in-Some : goal.returns-in-Some
 returns-in-Some c =

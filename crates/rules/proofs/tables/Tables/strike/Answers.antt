@@ -1,5 +1,4 @@
-use Rattle.std.proofs.Common.{◌≡◌, ℕ, true, false, Some, sym, refl, ap, ◌∙◌, arith}
-use Rattle.rules.specs.Entered.{entries_in}
+use Rattle.std.proofs.Common.{◌≡◌, ℕ, Some, sym, refl, ap, ◌∙◌, arith}
 use Rattle.rules.specs.Outcomes.{done, settled}
 use Rattle.rules.specs.Views.{entered}
 use Rattle.rules.proofs.MarkedRows.{entries_length}

@@ -1,13 +1,13 @@
-use Rattle.std.proofs.Common.{◌≡◌, ℕ, ◌+◌, ◌<◌, ◌≤◌, true, List, [], ◌∷◌, ◌++◌, length, Ok, Err, sym, refl, ap, ◌∙◌, subst, arith, length-set}
+use Rattle.std.proofs.Common.{◌≡◌, ℕ, ◌+◌, length, Ok, Err, sym, refl, ap, ◌∙◌, subst, arith, length-set}
 use Rattle.std.proofs.lemmas.List.{length_push, length-take}
 use Rattle.std.proofs.lemmas.Result.{err_from_is_err_and, IfOk-from_err}
 use Rattle.grammar.specs.Readings.{said}
 use Rattle.rules.specs.Adding.{lots_added}
-use Rattle.rules.specs.Entered.{entry_of, entries_in}
-use Rattle.rules.specs.Entries.{Entry, Entries, all_among}
+use Rattle.rules.specs.Entered.{entries_in}
+use Rattle.rules.specs.Entries.{Entries}
 use Rattle.rules.specs.LotNames.{lots_in}
 use Rattle.rules.specs.Outcomes.{settled}
-use Rattle.rules.specs.Taking.{with_rule, last_number}
+use Rattle.rules.specs.Taking.{last_number}
 use Rattle.rules.specs.TakingLaws.{Took}
 use Rattle.rules.specs.Views.{entered}
 use Rattle.rules.proofs.MarkedRows.{entries_length}
@@ -47,11 +47,8 @@ invariant_of-self c =
     record {
       few = omega arith;
       wide = ap length c.put.ensures ∙ length-set t.rows.rows t.given c.new.result ∙ t.wide;
-      over = still_among t.given t.rows c.put.new.self c.new.result ls ms l t.wide (omega arith) c.put.ensures tree c.new.ensures.mark s c.args.line.now.named t.over,
-          tt,
-        ),
-      ),
-    )
+      over = still_among t.given t.rows c.put.new.self c.new.result ls ms l t.wide (omega arith) c.put.ensures tree c.new.ensures.mark s c.args.line.now.named t.over;
+    }
 
 pub returns : goal.returns
 returns c =
