@@ -1,9 +1,8 @@
-use Rattle.std.proofs.Common.{◌≡◌, ℕ, ◌-◌, ◌<◌, ◌≤◌, true, false, ◌&&◌, leb, List, length, get_or, sym, ap, ◌∙◌, subst, arith, length-take, rules}
+use Rattle.std.proofs.Common.{◌≡◌, ℕ, ◌-◌, ◌≤◌, true, false, ◌&&◌, leb, List, length, get_or, sym, ap, ◌∙◌, subst, arith, length-take}
 use Rattle.std.proofs.lemmas.Bool.{le-leb}
 use Rattle.formula.specs.declared.node.Node.{Node}
 use Rattle.formula.specs.declared.node.Pair.{Pair}
 use Rattle.formula.specs.Evaluation.{parts_first, ready}
-use Rattle.formula.specs.Formulas.{nodes_of}
 use Rattle.formula.specs.Scales.{two}
 use Rattle.formula.specs.Table.{blank, trees, tree_of}
 use Rattle.formula.specs.Truth.{truth}
