@@ -3,7 +3,7 @@ use Rattle.std.proofs.Common.{◌≡◌, ℕ, zero, suc, ◌+◌, ◌<◌, ◌�
 use Rattle.std.proofs.lemmas.Bool.{cond-true, cond-false, ltb-true, ltb-false, cases_eq}
 use Rattle.std.proofs.lemmas.List.{drop_more, drop_all, get_or_at, get_or_append_left}
 use Rattle.std.proofs.ByRecursion.{All-push}
-use Rattle.std.specs.List.{AllByRecursion as All}
+use Rattle.std.specs.List.{AllByRecursion}
 use Rattle.formula.specs.Tree.{leaf, not, and, or, then}
 use Rattle.formula.specs.Table.{top}
 use Rattle.grammar.specs.declared.name.Name.{Name}
@@ -168,10 +168,10 @@ listed_once ns [] h = h
 listed_once ns (x ∷ xs) h = listed_once (enlist ns x) xs (enlist_once ns x h)
 
 -- what holds of all names holds of those listed
-pub listed_all : (P : Named → Type 0) (ns xs : List Named) → All P ns → All P xs → All P (listed ns xs)
+pub listed_all : (P : Named → Type 0) (ns xs : List Named) → AllByRecursion P ns → AllByRecursion P xs → AllByRecursion P (listed ns xs)
 listed_all P ns [] h k = h
 listed_all P ns (x ∷ xs) h k = listed_all P (enlist ns x) xs (go (ltb (find x.name ns) (length ns))) k.1
   where
-    go : (t : Bool) → All P (cond t ns (ns ++ x ∷ []))
+    go : (t : Bool) → AllByRecursion P (cond t ns (ns ++ x ∷ []))
     go true = h
     go false = All-push P ns x h k.0

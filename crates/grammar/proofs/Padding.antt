@@ -1,6 +1,6 @@
 -- Names with zeros behind them.
 use Rattle.std.proofs.Common.{◌≡◌, ℕ, zero, suc, ◌<◌, ◌≤◌, true, ◌↔◌, List, [], ◌∷◌, ◌++◌, length, set, sym, refl, ap, ◌∙◌, ap₂, arith}
-use Rattle.std.specs.List.{AllByRecursion as All}
+use Rattle.std.specs.List.{AllByRecursion}
 use Rattle.grammar.specs.declared.name.Name.{Name}
 use Rattle.grammar.specs.Names.{pad, stored, same, Decoded}
 use Rattle.grammar.proofs.Same.{same_self, same_is}
@@ -27,7 +27,7 @@ tails : {x y : ℕ} {xs ys : List ℕ} → x ∷ xs ≡ y ∷ ys → xs ≡ ys
 tails e = cc
 
 -- bytes that are not 0 can be told from the zeros behind them
-pub pad_same : (k : ℕ) (n m : List ℕ) → length n ≤ k → length m ≤ k → All (λ b. 0 < b) n → All (λ b. 0 < b) m → pad k n ≡ pad k m → n ≡ m
+pub pad_same : (k : ℕ) (n m : List ℕ) → length n ≤ k → length m ≤ k → AllByRecursion (λ b. 0 < b) n → AllByRecursion (λ b. 0 < b) m → pad k n ≡ pad k m → n ≡ m
 pad_same k [] [] h l p q e = refl
 pad_same zero (x ∷ n) m h l p q e = absurd (let z : ⊥ = omega arith in z)
 pad_same zero [] (y ∷ m) h l p q e = absurd (let z : ⊥ = omega arith in z)

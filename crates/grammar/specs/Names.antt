@@ -1,6 +1,6 @@
 -- Names as they are stored, and numbered by where they first stand. Rests on Tree of crate formula.
 use Rattle.std.specs.Prelude.{◌≡◌, ℕ, zero, suc, ◌<◌, ◌≤◌, Bool, true, false, cond, List, [], ◌∷◌, ◌++◌, length, ◌==◌, nat_lt, slice_index_or}
-use Rattle.std.specs.List.{AllByRecursion as All}
+use Rattle.std.specs.List.{AllByRecursion}
 use Rattle.formula.specs.declared.node.Pair.{Pair}
 use Rattle.formula.specs.Tree.{Tree, leaf, not, and, or, then, map_tree, map_pair}
 use Rattle.grammar.specs.declared.name.Name.{Name}
@@ -48,7 +48,7 @@ EachOnce ns = (i : ℕ) → i < length ns → find (slice_index_or ns i nobody).
 -- the bytes of a name as they are decoded: at most twelve, and none of them 0
 pub record Decoded (n : List ℕ) : Type 0 where
   pub few : length n ≤ 12
-  pub no_zero : All (λ b. 0 < b) n
+  pub no_zero : AllByRecursion (λ b. 0 < b) n
 
 -- a rule over its names, as it is read
 abbrev pub Phrase : Type 0

@@ -1,7 +1,7 @@
 -- What is known of every line that is taken.
 use Rattle.std.proofs.Common.{◌≡◌, ℕ, ◌<◌, ◌≤◌, Bool, true, eqb, leb, List, [], ◌∷◌, length, Ok, Err, sym, refl, ap, ◌∙◌, subst, ⊎_elim, arith}
 use Rattle.std.proofs.lemmas.Bool.{cases_lt, leb-true, eqb-true}
-use Rattle.std.specs.List.{AllByRecursion as All}
+use Rattle.std.specs.List.{AllByRecursion}
 use Rattle.formula.specs.Formulas.{formula_tree}
 use Rattle.formula.specs.Tree.{size}
 use Rattle.formula.proofs.Growth.{post_length}
@@ -36,14 +36,14 @@ plain_pos b h = ⊎_elim
     (either_cases (both (leb 48 b) (leb b 57)) (eqb b 45) r))
     (either_cases (upper b) (either (both (leb 48 b) (leb b 57)) (eqb b 45)) h)
 
-runs_pos : {sp : List (List ℕ)} {bs r n : List ℕ} → Runs sp bs r n → All (λ b. 0 < b) n
+runs_pos : {sp : List (List ℕ)} {bs r n : List ℕ} → Runs sp bs r n → AllByRecursion (λ b. 0 < b) n
 runs_pos (stops e) = tt
 runs_pos (itself {b = b} h x) = (plain_pos b h, runs_pos x)
 runs_pos (ampersand e x) = ((let z : 0 < 38 = omega arith in z), runs_pos x)
 runs_pos (reference e x) = ((let z : 0 < 38 = omega arith in z), runs_pos x)
 
 -- a token's name, before others
-named : {q : ℕ} {bs rest : List ℕ} {k : Token} → TokenAt q bs k rest → (ts : List Token) → All IsStored (token_names ts) → All IsStored (token_names (k ∷ ts))
+named : {q : ℕ} {bs rest : List ℕ} {k : Token} → TokenAt q bs k rest → (ts : List Token) → AllByRecursion IsStored (token_names ts) → AllByRecursion IsStored (token_names (k ∷ ts))
 named opens ts h = h
 named closes ts h = h
 named (word with e) ts h = h
@@ -54,7 +54,7 @@ named (word then e) ts h = h
 named (name {b = b} {n = n} u x l) ts h =
     ((b ∷ n, record { few = omega arith; no_zero = (upper_pos b u, runs_pos x) }, refl), h)
 
-spelt_names : {end : ℕ} {r : List ℕ} {t u : Bool} {q : ℕ} {bs : List ℕ} {ts : List Token} → Spelt end r t u q bs ts → All IsStored (token_names ts)
+spelt_names : {end : ℕ} {r : List ℕ} {t u : Bool} {q : ℕ} {bs : List ℕ} {ts : List Token} → Spelt end r t u q bs ts → AllByRecursion IsStored (token_names ts)
 spelt_names here = tt
 spelt_names (space x) = spelt_names x
 spelt_names (token {ts = ts} a x e y) = named x ts (spelt_names y)
@@ -103,5 +103,5 @@ well_read bs l o =
           ap length (sym l.formula.whole) ∙ post_length 0 (formula_tree l.formula) ∙ ap size e ∙ size_numbered (listed [] (names_of t)) t ∙ word_nodes y;
       names = λ ts t s y. ap (λ (x : Reading). x.names) (same_reading bs (said l) o few ts t s y) ∙ ap (listed []) (sym (names_in_line y));
       once = subst EachOnce (sym ns) (listed_once [] (names_of c.rule) (λ i h. absurd (let z : ⊥ = omega arith in z)));
-      decoded = subst (All IsStored) (sym ns) (listed_all IsStored [] (names_of c.rule) tt (subst (All IsStored) (names_in_line c.is) (spelt_names c.spells.1)));
+      decoded = subst (AllByRecursion IsStored) (sym ns) (listed_all IsStored [] (names_of c.rule) tt (subst (AllByRecursion IsStored) (names_in_line c.is) (spelt_names c.spells.1)));
     }

@@ -1,6 +1,6 @@
 -- What is known of every line that is taken. Rests on Spells and on Names and Words of crate grammar.
 use Rattle.std.specs.Prelude.{◌≡◌, ℕ, List, [], length}
-use Rattle.std.specs.List.{AllByRecursion as All}
+use Rattle.std.specs.List.{AllByRecursion}
 use Rattle.formula.specs.Formulas.{nodes_of}
 use Rattle.grammar.specs.declared.level.Level.TheVariants.{Rule}
 use Rattle.grammar.specs.declared.line.Line.{Line}
@@ -21,4 +21,4 @@ pub record WellRead (bs : List ℕ) (l : Line) : Type 0 where
   pub nodes : (ts : List Token) (t : Phrase) → Spells bs ts → Is Rule ts t → length (nodes_of l.formula) ≡ words ts
   pub names : (ts : List Token) (t : Phrase) → Spells bs ts → Is Rule ts t → (said l).names ≡ listed [] (token_names ts)
   pub once : EachOnce (said l).names
-  pub decoded : All IsStored (said l).names
+  pub decoded : AllByRecursion IsStored (said l).names

@@ -1,7 +1,7 @@
 -- Numbers of lots in formulas.
 use Rattle.std.proofs.Common.{◌≡◌, ℕ, zero, suc, ◌<◌, ◌≤◌, Bool, true, ◌&&◌, ltb, leb, List, [], ◌∷◌, ◌++◌, length, get_or, Some, sym, refl, ap, ◌∙◌, ap₂, arith}
 use Rattle.std.proofs.ByRecursion.{All-append}
-use Rattle.std.specs.List.{AllByRecursion as All, slice_get}
+use Rattle.std.specs.List.{AllByRecursion, slice_get}
 use Rattle.std.proofs.lemmas.Bool.{and_parts, and_from, leb-true, le-leb, ltb-true}
 use Rattle.std.specs.Option.{option_map}
 use Rattle.formula.specs.declared.node.Pair.{Pair}
@@ -87,7 +87,7 @@ over_among ls xs t known h =
     t (sym (within_every (length xs) t) ∙ h)
 
 -- in words
-every_all : {A : Type 0} (q : A → Bool) (P : A → Type 0) → ((a : A) → q a ≡ true → P a) → (t : Tree A) → every q t ≡ true → All P (atoms t)
+every_all : {A : Type 0} (q : A → Bool) (P : A → Type 0) → ((a : A) → q a ≡ true → P a) → (t : Tree A) → every q t ≡ true → AllByRecursion P (atoms t)
 every_all q P h (leaf a) e = (h a e, tt)
 every_all q P h (not p t) e = every_all q P h t e
 every_all q P h (and p t u) e = let b = and_parts (every q t) (every q u) e in All-append P (atoms t) (atoms u) (every_all q P h t b.0) (every_all q P h u b.1)

@@ -1,6 +1,6 @@
 -- When a numbering keeps a rule. Rests on Truth and Scales of crate formula.
 use Rattle.std.specs.Prelude.{◌≡◌, ℕ, ◌-◌, ◌≤◌, Bool, true, List, ◌==◌, slice_index}
-use Rattle.std.specs.List.{AllByRecursion as All}
+use Rattle.std.specs.List.{AllByRecursion}
 use Rattle.formula.specs.declared.node.Pair.{Pair}
 use Rattle.formula.specs.Scales.{two}
 use Rattle.formula.specs.Tree.{Tree}
@@ -27,7 +27,7 @@ abbrev pub Keeps : Numbering → Tree (Pair ℕ) → Type 0
 Keeps f t = kept_in f t ≡ true
 
 abbrev pub KeepsAll : Numbering → List (Tree (Pair ℕ)) → Type 0
-KeepsAll f ts = All (Keeps f) ts
+KeepsAll f ts = AllByRecursion (Keeps f) ts
 
 -- two numberings give each of n lots the same number
 abbrev pub Agree : ℕ → Numbering → Numbering → Type 0

@@ -1,6 +1,6 @@
 -- What holds of the numbers in a rule's formula (statements). Rests on Tree of crate formula.
 use Rattle.std.specs.Prelude.{ℕ, ◌≤◌}
-use Rattle.std.specs.List.{AllByRecursion as All}
+use Rattle.std.specs.List.{AllByRecursion}
 use Rattle.formula.specs.declared.node.Pair.{Pair}
 use Rattle.formula.specs.Tree.{Tree, atoms}
 
@@ -11,4 +11,4 @@ pub record LotsOf (n : ℕ) (p : Pair ℕ) : Type 0 where
 
 -- every pair of a formula is a pair of lots
 abbrev pub OverLots : ℕ → Tree (Pair ℕ) → Type 0
-OverLots n t = All (LotsOf n) (atoms t)
+OverLots n t = AllByRecursion (LotsOf n) (atoms t)
