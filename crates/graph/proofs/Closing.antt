@@ -4,7 +4,7 @@ use Rattle.std.proofs.lemmas.Bool.{both_ways, not-true, not_from_false, eqb-fals
 use Rattle.graph.specs.Filling.{both_neighbours, closed}
 use Rattle.graph.specs.Lots.{Lot, has}
 use Rattle.graph.specs.Pairs.{OfPairs}
-use Rattle.graph.specs.Members.{alike, never}
+use Rattle.graph.proofs.Members.{alike, never}
 use Rattle.graph.proofs.PairTests.{turned}
 
 module _ (v : ℕ) (rest : List ℕ) (e : ℕ → ℕ → Bool) where

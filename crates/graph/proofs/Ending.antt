@@ -11,7 +11,7 @@ use Rattle.graph.specs.RoundLaws.{RoundsEnd}
 use Rattle.graph.specs.Rounds.{reason, round, rounds, marked}
 use Rattle.graph.proofs.LivePairs.{of_pairs}
 use Rattle.graph.proofs.Marking.{same_marks, round_cases, round_grows, marks_live, reason_pairs}
-use Rattle.graph.specs.Members.{alike}
+use Rattle.graph.proofs.Members.{alike}
 use Rattle.graph.proofs.PairTests.{turned, by_pairs}
 use Rattle.graph.proofs.Weights.{weight, weight_most, weight_le, no_heavier}
 

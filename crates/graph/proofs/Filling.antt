@@ -6,7 +6,8 @@ use Rattle.graph.specs.Filling.{closed, Pick, Stage, stages, named}
 use Rattle.graph.specs.Lots.{Lot, has, without, Simple}
 use Rattle.graph.specs.Pairs.{OfPairs}
 use Rattle.graph.proofs.Closing.{closed_more, closed_joins, closed_cases, closed_off, closed_pairs}
-use Rattle.graph.specs.Members.{never, has_cases, not_without, has_without, without_has, without_lt}
+use Rattle.graph.specs.Members.{has_cases}
+use Rattle.graph.proofs.Members.{never, not_without, has_without, without_has, without_lt}
 
 -- a stage, by its parts
 abbrev pub at : List ℕ → (ℕ → ℕ → Bool) → Stage

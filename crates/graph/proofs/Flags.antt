@@ -6,7 +6,8 @@ use Rattle.std.proofs.lemmas.Bool.{false≢true, cases_order, eq-eqb, ne_eqb, co
 use Rattle.graph.specs.Lots.{has, without}
 use Rattle.graph.specs.Standing.{flagged_from}
 use Rattle.graph.specs.StandingLaws.{FlagsStand}
-use Rattle.graph.specs.Members.{never, has_cases, without_none}
+use Rattle.graph.specs.Members.{has_cases}
+use Rattle.graph.proofs.Members.{never, without_none}
 
 all_from : (n k : ℕ) → flagged_from k (replicate n true) ≡ range_with_len k n
 all_from zero k = refl

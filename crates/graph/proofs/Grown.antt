@@ -11,7 +11,7 @@ use Rattle.formula.proofs.Information.{informed}
 use Rattle.graph.specs.Growth.{Grown}
 use Rattle.graph.specs.MarkLaws.{MoreMarksFewerLive}
 use Rattle.graph.specs.Marks.{Marks, idle, under, value, is_open, is_on, live, live_in}
-use Rattle.graph.specs.Members.{or_map, and_map}
+use Rattle.graph.proofs.Members.{or_map, and_map}
 
 -- a mark more decides a literal that was open
 less_mark : (i i' : Bool) → (i ≡ true → i' ≡ true) → Less (cond i Yes Open) (cond i' Yes Open)

@@ -1,4 +1,5 @@
 pub mod Places
+pub mod Members
 pub mod PairTests
 pub mod Reaching
 pub mod Paths
@@ -14,6 +15,7 @@ pub mod Saving
 pub mod Closing
 pub mod Filling
 pub mod Links
+pub mod Picking
 pub mod Flags
 pub mod Choosing
 pub mod Degrees

@@ -16,7 +16,7 @@ use Rattle.graph.specs.Rounds.{marked}
 use Rattle.graph.proofs.Closing.{closed_pairs}
 use Rattle.graph.proofs.Filling.{at, stages_more, stages_pairs, named_stood, all_named, named_once, none_left, filled, origin}
 use Rattle.graph.proofs.LivePairs.{of_pairs}
-use Rattle.graph.specs.Members.{lots_have, has_lots, without_has, counting_has}
+use Rattle.graph.proofs.Members.{lots_have, has_lots, without_has, counting_has}
 use Rattle.graph.proofs.PairTests.{either_pairs}
 
 pub start_pairs : (n : ℕ) (fs : List (Tree (Pair ℕ))) → of_lots n fs ≡ true → OfPairs n (start n fs).linked

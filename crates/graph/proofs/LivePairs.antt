@@ -12,7 +12,7 @@ use Rattle.graph.specs.MarkLaws.{LivePairs}
 use Rattle.graph.specs.Marks.{Marks, idle, under, value, is_open, is_on, live, live_in}
 use Rattle.graph.specs.Pairs.{same_pair, Symmetric, OfPairs}
 use Rattle.graph.proofs.LiveLiterals.{pair_cases, open_literal, found}
-use Rattle.graph.specs.Members.{alike, never, or_map, and_map, lot_from}
+use Rattle.graph.proofs.Members.{alike, never, or_map, and_map, lot_from}
 
 pub pair_turn : (c d a b : ℕ) → same_pair c d a b ≡ true → same_pair c d b a ≡ true
 pair_turn c d a b h = ⊎_elim

@@ -14,7 +14,7 @@ use Rattle.graph.specs.RoundLaws.{ComponentsAreChains, RoundsShrink, MarksHaveRe
 use Rattle.graph.specs.Rounds.{reason, round, rounds}
 use Rattle.graph.proofs.Grown.{more_marks_fewer_live}
 use Rattle.graph.proofs.LivePairs.{of_pairs}
-use Rattle.graph.specs.Members.{never}
+use Rattle.graph.proofs.Members.{never}
 use Rattle.graph.proofs.PairTests.{either_pairs}
 use Rattle.graph.proofs.Reaching.{joined_is_chained}
 use Rattle.graph.proofs.Reasons.{reasons_are_tested, reason_turns}

@@ -3,7 +3,7 @@ use Rattle.std.proofs.Common.{◌≡◌, ℕ, Bool, true, ◌||◌, sym, ◌∙�
 use mathlib.Core.Path.{fun_ext}
 use Rattle.std.proofs.lemmas.Bool.{both_ways, cases_order, or_cases, or_from}
 use Rattle.graph.specs.Pairs.{IsPair, OfPairs}
-use Rattle.graph.specs.Members.{alike}
+use Rattle.graph.proofs.Members.{alike}
 
 -- in the other order
 pub turned : {n : ℕ} {e : ℕ → ℕ → Bool} → OfPairs n e → (a b : ℕ) → e a b ≡ true → e b a ≡ true

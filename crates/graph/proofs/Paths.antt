@@ -4,7 +4,8 @@ use Rattle.std.proofs.lemmas.Bool.{both_ways, false≢true, cases_Bool, cases_eq
 use Rattle.graph.specs.ChainLaws.{ChainsHavePaths}
 use Rattle.graph.specs.Chains.{Chain, stop, step, Path}
 use Rattle.graph.specs.Lots.{has, Simple, Inside}
-use Rattle.graph.specs.Members.{never, has_first, has_next, has_cases}
+use Rattle.graph.specs.Members.{has_first, has_next, has_cases}
+use Rattle.graph.proofs.Members.{never}
 
 -- a path that reaches y has y, unless it is empty
 pub ends : (e : ℕ → ℕ → Bool) (y x p : ℕ) (ps : List ℕ) → Path e y x (p ∷ ps) → has y (p ∷ ps) ≡ true

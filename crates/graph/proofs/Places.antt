@@ -1,6 +1,6 @@
 -- The places of pairs.
 use Rattle.std.proofs.Common.{◌≡◌, ℕ, zero, suc, ◌+◌, ◌-◌, ◌*◌, ◌/◌, ◌<◌, ◌≤◌, ◌++◌, length, get_or, sym, refl, ap, ◌∙◌, subst, ⊎_elim, mul_comm, mul-add, arith, lit<, length-append}
-use native.Mathlib.Nat.{add_mul_div_right}
+use Rattle.std.proofs.Math.Nat.{add-mul-div_right}
 use Rattle.std.proofs.lemmas.List.FromFn.{length-map-range_with_len, get_or-map-range_with_len}
 use Rattle.std.proofs.lemmas.List.{get_or_append_left, get_or-append-add}
 use Rattle.std.proofs.lemmas.Bool.{cases_eq, cases_lt, cases_order}
@@ -16,7 +16,7 @@ count_more (suc j) =
     let e : suc (suc j) ≡ j + 2 = omega arith in
     ap (λ m. suc (suc j) * m / 2) a
     ∙ ap (λ m. m / 2) (mul_comm (suc (suc j)) (suc j) ∙ ap (λ m. suc j * m) e ∙ mul-add (suc j) j 2)
-    ∙ add_mul_div_right (suc j * j) (suc j) (lit< tt)
+    ∙ add-mul-div_right (suc j * j) (suc j) (lit< tt)
     ∙ ap (λ m. suc j * m / 2 + suc j) (sym b)
 
 count_far : (m d : ℕ) → count_of_pairs m ≤ count_of_pairs (d + m)

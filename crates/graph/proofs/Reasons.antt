@@ -8,7 +8,7 @@ use Rattle.graph.specs.Pairs.{OfPairs}
 use Rattle.graph.specs.Reasons.{Reason}
 use Rattle.graph.specs.RoundLaws.{ReasonsAreTested}
 use Rattle.graph.specs.Rounds.{crossed, reason}
-use Rattle.graph.specs.Members.{never, alike, some_from, some_is}
+use Rattle.graph.proofs.Members.{never, alike, some_from, some_is}
 use Rattle.graph.proofs.PairTests.{turned}
 use Rattle.graph.proofs.Reaching.{joined_is_chained, turn}
 

@@ -18,7 +18,7 @@ use Rattle.graph.proofs.Filling.{stages_pairs}
 use Rattle.graph.proofs.Links.{start_pairs}
 use Rattle.graph.proofs.LivePairs.{of_pairs}
 use Rattle.graph.proofs.Marking.{pairs_marked}
-use Rattle.graph.specs.Members.{alike, never, has_lots, lot_from, lot_test}
+use Rattle.graph.proofs.Members.{alike, never, has_lots, lot_from, lot_test}
 use Rattle.graph.proofs.Numbering.{pairs_are_numbered}
 use Rattle.graph.proofs.PairTests.{same_tests}
 use Rattle.graph.proofs.Places.{places, count_mono}

@@ -9,7 +9,8 @@ use Rattle.graph.specs.Pairs.{same_pair, Symmetric}
 use Rattle.graph.specs.TriangleLaws.{TrianglesSuffice, AllTrianglesSuffice}
 use Rattle.graph.specs.Triangles.{Triangle, Concluding, ConditionsWanted, Obeyed}
 use Rattle.graph.proofs.LiveLiterals.{pair_cases}
-use Rattle.graph.specs.Members.{never, has_first, has_next, has_cases, differ}
+use Rattle.graph.specs.Members.{has_first, has_next, has_cases}
+use Rattle.graph.proofs.Members.{never, differ}
 use Rattle.graph.proofs.Paths.{ends, over, Cut, cut}
 use Rattle.graph.proofs.Sights.{sees}
 

@@ -8,7 +8,7 @@ use Rattle.graph.specs.Pairs.{IsPair, place, count_of_pairs, same_pair, OfPairs}
 use Rattle.graph.specs.Records.{no_link, place_of, flagged}
 use Rattle.graph.proofs.LiveLiterals.{pair_cases}
 use Rattle.graph.proofs.LivePairs.{pair_turn}
-use Rattle.graph.specs.Members.{alike, never}
+use Rattle.graph.proofs.Members.{alike, never}
 use Rattle.graph.proofs.PairTests.{either_pairs}
 use Rattle.graph.proofs.Places.{places}
 use Rattle.graph.proofs.Records.{place_low, place_high, flag_at, flagged_pairs, flags_by}

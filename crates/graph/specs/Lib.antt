@@ -1,4 +1,5 @@
 pub mod Lots
+pub mod Members
 pub mod Pairs
 pub mod PairLaws
 pub mod Chains
@@ -18,6 +19,7 @@ pub mod SafetyLaws
 pub mod Filling
 pub mod Pickers
 pub mod Filled
+pub mod Picking
 pub mod FillingLaws
 pub mod Standing
 pub mod Standings
@@ -29,5 +31,3 @@ pub mod NumberingLaws
 pub mod Records
 pub mod RecordLaws
 pub mod Examples
-pub mod Picking
-pub mod Members

@@ -3,7 +3,7 @@ ghost use Rattle.graph.specs.Lots.{Lot};
 ghost use Rattle.graph.specs.Pickers.{degree as degree_of, improved, fewest_first};
 ghost use Rattle.graph.specs.Records.{flagged, is_linked};
 ghost use Rattle.graph.specs.Standing.{standing_in};
-ghost use Rattle.graph.specs.Picking.{pickers_pick};
+ghost use Rattle.graph.specs.Picking.{fewest_names};
 
 use crate::link::Link;
 use crate::pair::place;
@@ -75,7 +75,7 @@ fn fewest(flags: &[bool], links: &[Link]) -> usize
 impl Picker for FewestFirst {
     ghost picks = { λ _. fewest_first };
 
-    ghost names = { λ p. pickers_pick.fewest };
+    ghost names = { λ _. fewest_names };
 
     fn pick(&self, standing: &Standing, links: &[Link]) -> usize {
         fewest(standing.flags(), links)

@@ -1,7 +1,7 @@
 ghost use Rattle.std.specs.Prelude.{◌≡◌, ℕ, Bool};
 ghost use Rattle.graph.specs.Pickers.{lowest_first};
 ghost use Rattle.graph.specs.Standing.{standing_in};
-ghost use Rattle.std.proofs.Common.{rules};
+ghost use Rattle.graph.specs.Picking.{lowest_names};
 
 use crate::link::Link;
 use crate::picker::Picker;
@@ -26,7 +26,7 @@ fn first_set(flags: &[bool]) -> usize
 impl Picker for LowestFirst {
     ghost picks = { λ _. lowest_first };
 
-    ghost names = { Prim.search rules };
+    ghost names = { λ _. lowest_names };
 
     fn pick(&self, standing: &Standing, links: &[Link]) -> usize {
         first_set(standing.flags())

@@ -1,4 +1,4 @@
-use Rattle.graph.specs.Picking.{pickers_pick}
+use Rattle.graph.proofs.Picking.{pickers_pick}
 use Rattle.graph.proofs.laws.pickers_pick.Goals as goal
 
 pub returns : goal.returns

@@ -4,7 +4,7 @@ use Rattle.graph.specs.Lots.{without}
 use Rattle.graph.specs.Standing.{standing_in}
 use Rattle.graph.specs.Standings.{flags_in, standing_lots}
 use Rattle.graph.proofs.Flags.{flags_stand, stands_within, take_set_any}
-use Rattle.graph.specs.Members.{without_none}
+use Rattle.graph.proofs.Members.{without_none}
 use Rattle.graph.proofs.standing.Standing.take_out.Goals as goal
 
 pub overflow_sub-self : goal.overflow_sub-self
