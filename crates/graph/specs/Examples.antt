@@ -4,7 +4,6 @@ use Rattle.formula.specs.Tree.{Tree, leaf, not, or}
 use Rattle.formula.specs.declared.node.Pair.{Pair}
 use Rattle.graph.specs.declared.link.Link.{Link}
 use Rattle.graph.specs.Filling.{order}
-use Rattle.graph.specs.Joined.{joined}
 use Rattle.graph.specs.Marks.{idle}
 use Rattle.graph.specs.Pairs.{place, pairs}
 use Rattle.graph.specs.Pickers.{lowest_first, fewest_first}

@@ -1,6 +1,5 @@
 -- What holds of the places of pairs (statements). Rests on Pairs.
 use Rattle.std.specs.Prelude.{◌≡◌, ℕ, ◌<◌, ◌≤◌, length, slice_index_or}
-use Rattle.graph.specs.Live.{below}
 use Rattle.graph.specs.Pairs.{IsPair, place, count_of_pairs, pairs}
 
 -- The places of the pairs of n lots are exactly the numbers below n(n - 1)/2: each pair has one of them, different pairs have different places, and

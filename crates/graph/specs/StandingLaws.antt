@@ -1,5 +1,5 @@
 -- What holds of flags for the standing lots (statements). Rests on Standing.
-use Rattle.std.specs.Prelude.{◌≡◌, ℕ, ◌+◌, Bool, true, false, List, set, replicate, slice_index_or, slice_set}
+use Rattle.std.specs.Prelude.{◌≡◌, ℕ, ◌+◌, Bool, true, false, List, replicate, slice_index_or, slice_set}
 use Rattle.graph.specs.Lots.{lots, has, without}
 use Rattle.graph.specs.Standing.{standing_in}
 

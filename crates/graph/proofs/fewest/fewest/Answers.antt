@@ -1,4 +1,4 @@
-use Rattle.std.proofs.Common.{◌≡◌, ℕ, ◌+◌, length, drop, sym, ap, ◌∙◌, arith}
+use Rattle.std.proofs.Common.{ℕ, ◌+◌, length, drop, sym, ap, ◌∙◌, arith}
 use Rattle.graph.specs.Pickers.{degree}
 use Rattle.graph.specs.Records.{flagged, is_linked}
 use Rattle.graph.specs.Standing.{flagged_from, standing_in}

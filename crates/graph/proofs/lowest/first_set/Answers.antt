@@ -1,4 +1,4 @@
-use Rattle.std.proofs.Common.{sym, refl, ap, ◌∙◌, arith}
+use Rattle.std.proofs.Common.{sym, refl, ap, ◌∙◌}
 use Rattle.graph.specs.Pickers.{lowest_first}
 use Rattle.graph.proofs.Flags.{next_set, next_clear, no_more}
 use Rattle.graph.proofs.lowest.first_set.Goals as goal
