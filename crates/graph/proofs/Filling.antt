@@ -4,9 +4,9 @@ use Rattle.std.proofs.lemmas.Bool.{both_ways, false≢true, cases_eq, eq-eqb, or
 use Rattle.graph.specs.Filled.{Filled, Joins, NamesStanding}
 use Rattle.graph.specs.Filling.{closed, Pick, Stage, stages, named}
 use Rattle.graph.specs.Lots.{Lot, has, without, Simple}
+use Rattle.graph.specs.Members.{has_cases}
 use Rattle.graph.specs.Pairs.{OfPairs}
 use Rattle.graph.proofs.Closing.{closed_more, closed_joins, closed_cases, closed_off, closed_pairs}
-use Rattle.graph.specs.Members.{has_cases}
 use Rattle.graph.proofs.Members.{never, not_without, has_without, without_has, without_lt}
 
 -- a stage, by its parts

@@ -4,9 +4,9 @@ use Rattle.std.specs.List.{range_with_len}
 use Rattle.std.proofs.lemmas.List.{drop_more, drop_all, get_or_past}
 use Rattle.std.proofs.lemmas.Bool.{false≢true, cases_order, eq-eqb, ne_eqb, cond-true, cond-false}
 use Rattle.graph.specs.Lots.{has, without}
+use Rattle.graph.specs.Members.{has_cases}
 use Rattle.graph.specs.Standing.{flagged_from}
 use Rattle.graph.specs.StandingLaws.{FlagsStand}
-use Rattle.graph.specs.Members.{has_cases}
 use Rattle.graph.proofs.Members.{never, without_none}
 
 all_from : (n k : ℕ) → flagged_from k (replicate n true) ≡ range_with_len k n

@@ -4,10 +4,10 @@ use Rattle.std.proofs.lemmas.Bool.{both_ways, false≢true, and_parts}
 use Rattle.graph.specs.Chains.{Path}
 use Rattle.graph.specs.Filling.{links, order}
 use Rattle.graph.specs.Lots.{Lot, has, Inside}
+use Rattle.graph.specs.Members.{has_cases}
 use Rattle.graph.specs.Pairs.{OfPairs}
 use Rattle.graph.specs.TriangleLaws.{LinksSuffice}
 use Rattle.graph.proofs.Links.{links_are_filled}
-use Rattle.graph.specs.Members.{has_cases}
 use Rattle.graph.proofs.Triangles.{triangles_suffice}
 
 -- a path of links stays among the lots of the order

@@ -1,12 +1,11 @@
 -- What the two pickers name.
-use Rattle.std.specs.Prelude.{◌≡◌, ℕ, ◌<◌, ◌≤◌, true, List, [], ◌∷◌, ◌==◌, nat_le}
-use Rattle.std.proofs.Common.{sym, subst, ⊎_elim, arith}
+use Rattle.std.proofs.Common.{◌≡◌, ℕ, ◌<◌, ◌≤◌, true, List, [], ◌∷◌, ◌==◌, nat_le, sym, subst, ⊎_elim, arith}
 use Rattle.std.proofs.lemmas.Bool.{false≢true, cases_Bool, leb-true, leb-false, cond-true, cond-false, eq-eqb, or_left}
 use Rattle.graph.specs.Filled.{Rising}
 use Rattle.graph.specs.FillingLaws.{PickersPick}
 use Rattle.graph.specs.Lots.{has}
-use Rattle.graph.specs.Pickers.{degree, fewest}
 use Rattle.graph.specs.Members.{has_first, has_next, has_cases}
+use Rattle.graph.specs.Pickers.{degree, fewest}
 use Rattle.graph.specs.Picking.{lowest_names, fewest_names}
 
 -- no other has a lower figure, and none below it has the same

@@ -4,9 +4,9 @@ use Rattle.std.proofs.lemmas.Bool.{both_ways, false≢true, cases_Bool, cases_eq
 use Rattle.graph.specs.Chains.{Path}
 use Rattle.graph.specs.Filled.{Filled}
 use Rattle.graph.specs.Lots.{has, without, Simple, Inside}
+use Rattle.graph.specs.Members.{has_first, has_next, has_cases}
 use Rattle.graph.specs.Pairs.{Symmetric}
 use Rattle.graph.specs.TriangleLaws.{InnerSeesEnds}
-use Rattle.graph.specs.Members.{has_first, has_next, has_cases}
 use Rattle.graph.proofs.Members.{never, differ, not_without, without_has, absent, without_none, simple_without}
 use Rattle.graph.proofs.Paths.{ends, last_step}
 

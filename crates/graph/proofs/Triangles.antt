@@ -5,11 +5,11 @@ use Rattle.graph.specs.Chains.{Path}
 use Rattle.graph.specs.Filled.{Filled}
 use Rattle.graph.specs.Filling.{order}
 use Rattle.graph.specs.Lots.{has, Simple, Inside}
+use Rattle.graph.specs.Members.{has_first, has_next, has_cases}
 use Rattle.graph.specs.Pairs.{same_pair, Symmetric}
 use Rattle.graph.specs.TriangleLaws.{TrianglesSuffice, AllTrianglesSuffice}
 use Rattle.graph.specs.Triangles.{Triangle, Concluding, ConditionsWanted, Obeyed}
 use Rattle.graph.proofs.LiveLiterals.{pair_cases}
-use Rattle.graph.specs.Members.{has_first, has_next, has_cases}
 use Rattle.graph.proofs.Members.{never, differ}
 use Rattle.graph.proofs.Paths.{ends, over, Cut, cut}
 use Rattle.graph.proofs.Sights.{sees}

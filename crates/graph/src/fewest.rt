@@ -1,9 +1,9 @@
 ghost use Rattle.std.specs.Prelude.{◌≡◌, ◌≤◌, length};
 ghost use Rattle.graph.specs.Lots.{Lot};
 ghost use Rattle.graph.specs.Pickers.{degree as degree_of, improved, fewest_first};
+ghost use Rattle.graph.specs.Picking.{fewest_names};
 ghost use Rattle.graph.specs.Records.{flagged, is_linked};
 ghost use Rattle.graph.specs.Standing.{standing_in};
-ghost use Rattle.graph.specs.Picking.{fewest_names};
 
 use crate::link::Link;
 use crate::pair::place;

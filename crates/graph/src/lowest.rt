@@ -1,7 +1,7 @@
 ghost use Rattle.std.specs.Prelude.{◌≡◌, ℕ, Bool};
 ghost use Rattle.graph.specs.Pickers.{lowest_first};
-ghost use Rattle.graph.specs.Standing.{standing_in};
 ghost use Rattle.graph.specs.Picking.{lowest_names};
+ghost use Rattle.graph.specs.Standing.{standing_in};
 
 use crate::link::Link;
 use crate::picker::Picker;
