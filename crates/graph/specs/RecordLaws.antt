@@ -1,5 +1,5 @@
 -- What the records say (statements). Rests on Records.
-use Rattle.std.specs.Prelude.{◌≡◌, ℕ, ◌≤◌, Bool, true, List, length, get_or, drop, slice_index_or}
+use Rattle.std.specs.Prelude.{◌≡◌, ℕ, ◌≤◌, Bool, true, List, length, drop, slice_index_or}
 use Rattle.formula.specs.Tree.{Tree}
 use Rattle.formula.specs.declared.node.Pair.{Pair}
 use Rattle.graph.specs.declared.link.Link.{Link}
@@ -26,8 +26,8 @@ pub record Says (n : ℕ) (fs : List (Tree (Pair ℕ))) (pick : Pick) (old ls : 
   pub positives : flagged n is_idle_positive ls ≡ (marked n fs).positive
   pub negatives : flagged n is_idle_negative ls ≡ (marked n fs).negative
   pub joins : flagged n is_linked ls ≡ links n fs pick
-  pub variables : (a b : ℕ) → IsPair n a b → (get_or ls (place a b) no_link).variable ≡ variable n (links n fs pick) a b
-  pub small : n ≤ 24 → (a b : ℕ) → IsPair n a b → (get_or ls (place a b) no_link).variable ≤ 276
+  pub variables : (a b : ℕ) → IsPair n a b → (slice_index_or ls (place a b) no_link).variable ≡ variable n (links n fs pick) a b
+  pub small : n ≤ 24 → (a b : ℕ) → IsPair n a b → (slice_index_or ls (place a b) no_link).variable ≤ 276
   pub rest : drop (count_of_pairs n) ls ≡ drop (count_of_pairs n) old
   pub size : count_of_pairs n ≤ length old → length ls ≡ length old
 
