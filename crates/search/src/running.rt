@@ -7,8 +7,8 @@ use crate::status::Status;
 
 // Begins the searcher over this many variables, and steps it over the codes until it is no longer working or the budget is used.
 pub fn run<S: Searcher>(searcher: &mut S, variables: usize, codes: &[u16], budget: u32) -> Outcome
-    ensures answers { Answers (capped variables) (stated (capped variables)) codes.now budget (view searcher.new) result }
-    ensures ran { Ran view begins steps variables codes.now (steps_of result) searcher.old searcher.new }
+    ensures answers { Answers (capped variables) (S.stated (capped variables)) codes.now budget (S.view searcher.new) result }
+    ensures ran { Ran S.view S.begins S.steps variables codes.now (steps_of result) searcher.old searcher.new }
 {
     searcher.begin(variables);
     let mut steps = 0;

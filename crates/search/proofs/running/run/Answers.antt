@@ -13,7 +13,7 @@ pub loop-steps-preserved : goal.loop-steps-preserved
 loop-steps-preserved g c =
     let at = c.loop-steps.invariant.1 in
     let working = sym c.in-Working.ensures in
-    let young : (g.S-as-Searcher.view c.loop-steps.searcher).age < age_limit = omega (arith, at.at_age) in
+    let young : (g.S.Searcher.view c.loop-steps.searcher).age < age_limit = omega (arith, at.at_age) in
     (omega arith, standing_moved _ _ _ _ _ _ at working (c.step.ensures.moves at.at_sound working young), stepped_more _ c.loop-steps.invariant.2 working c.step.ensures.steps)
 
 pub returns-in-Working-status : goal.returns-in-Working-status

@@ -6,7 +6,7 @@ use Rattle.search.proofs.running.run.Given as goal
 
 abbrev pub invariant-loop-steps : goal.invariant-loop-steps
 invariant-loop-steps g l =
-    let m = g.S-as-Searcher in
+    let m = g.S.Searcher in
     (l.steps ≤ l.budget)
     × Standing (capped l.variables) (m.stated (capped l.variables)) l.codes l.steps (m.view l.searcher)
     × Stepped m.view (λ s t. m.steps s l.codes t) l.steps l.initial.searcher l.searcher
