@@ -2,6 +2,7 @@
 use Rattle.std.proofs.Common.{◌≡◌, ℕ, ◌^◌, ◌≤◌, Bool, ◌⊎◌, List, [], length, sym, refl, ap, ◌∙◌, subst, inl, inr, arith}
 use Rattle.clauses.specs.Meaning.{Assignment, MeetsAll, assigned}
 use Rattle.search.specs.Limits.{age_limit, capped}
+use Rattle.search.specs.Lively.{counter_lively, walker_lively}
 use Rattle.search.specs.States.{State, cut, filled, iterated}
 use Rattle.search.specs.Counting.{counter_start, counter_move, counter_step}
 use Rattle.search.specs.Walking.{walker_start, walker_move, walker_step}
@@ -9,15 +10,15 @@ use Rattle.search.specs.Meanings.{Open, Ahead, number, nodes, counter_reserve, w
 use Rattle.search.specs.Statements.{CountsUp, FirstModel, Alike}
 use Rattle.search.specs.declared.status.Status.{Status}
 use Rattle.search.specs.declared.status.Status.TheVariants.{Working, Found, Refuted}
-use Rattle.search.specs.Conflicts.{working_not_found}
-use Rattle.search.specs.Counts.{counter_steady, counter_begun, counter_lively}
-use Rattle.search.specs.Fills.{length_filled}
+use Rattle.search.proofs.Conflicts.{working_not_found}
+use Rattle.search.proofs.Counts.{counter_steady, counter_begun}
+use Rattle.search.proofs.Fills.{length_filled}
 use Rattle.search.proofs.Lasts.{none_all_true}
-use Rattle.search.specs.Numbers.{Counts, counts}
-use Rattle.search.specs.Order.{ahead_none, ahead_filled, same_order, same_assigned}
+use Rattle.search.proofs.Numbers.{Counts, counts}
+use Rattle.search.proofs.Order.{ahead_none, ahead_filled, same_order, same_assigned}
 use Rattle.search.proofs.Ranges.{run_reached}
-use Rattle.search.specs.Steady.{Whole, Partial}
-use Rattle.search.specs.Walks.{walker_steady, walker_begun, walker_lively}
+use Rattle.search.proofs.Steady.{Whole, Partial}
+use Rattle.search.proofs.Walks.{walker_steady, walker_begun}
 
 pub counts_up : CountsUp
 counts_up = record {

@@ -1,6 +1,6 @@
 -- Where the last value that is as wanted stands, and what it says that there is none. Rests on specs/States.
 use Rattle.std.proofs.Common.{◌≡◌, ℕ, zero, suc, ◌+◌, ◌-◌, ◌<◌, ◌≤◌, Bool, true, false, List, [], ◌∷◌, ◌++◌, length, get_or, take, Some, None, Option, sym, refl, ap, ◌∙◌, subst, arith}
-use mathlib.Core.Bool.{beq}
+use Rattle.std.specs.Bool.{beq}
 use Rattle.std.proofs.lemmas.List.{take_more, length-take-le}
 use Rattle.search.specs.States.{last_at, last_of, last_false}
 

@@ -1,4 +1,12 @@
 pub mod Lasts
+pub mod Fills
+pub mod Order
+pub mod Numbers
+pub mod Trees
+pub mod Conflicts
+pub mod Steady
+pub mod Counts
+pub mod Walks
 pub mod Steps
 pub mod Standings
 pub mod Iterations

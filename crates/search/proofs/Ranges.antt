@@ -10,7 +10,7 @@ use Rattle.search.specs.declared.status.Status.{Status}
 use Rattle.search.specs.declared.status.Status.TheVariants.{Working}
 use Rattle.search.proofs.Iterations.{cases_working, iterated_on, iterated_ended}
 use Rattle.search.proofs.Standings.{Standing, standing_begun, standing_moved, standing_answers}
-use Rattle.search.specs.Steady.{Steady}
+use Rattle.search.proofs.Steady.{Steady}
 use Rattle.search.proofs.Steps.{on_stepped}
 
 module _ (reserve : Status → ℕ → List Bool → ℕ) (Fit : State → Type 0) (move : State → List ℕ → State) (codes : List ℕ) (top stated : ℕ) where

@@ -5,7 +5,7 @@ use Rattle.search.specs.Searching.{View, Begun, Moved, Stepped, on, Answers, out
 use Rattle.search.specs.declared.status.Status.{Status}
 use Rattle.search.specs.declared.status.Status.TheVariants.{Working, Found, Refuted}
 use Rattle.search.specs.declared.outcome.Outcome.{Outcome}
-use Rattle.search.specs.Conflicts.{working_not_found, working_not_refuted}
+use Rattle.search.proofs.Conflicts.{working_not_found, working_not_refuted}
 
 pub record Standing (top stated : ℕ) (codes : List ℕ) (n : ℕ) (s : View) : Type 0 where
   pub at_sound : s.sound

@@ -10,7 +10,7 @@ use Rattle.search.specs.Walking.{prefix_at, prefix_of}
 use Rattle.search.specs.declared.status.Status.{Status}
 use Rattle.search.specs.declared.status.Status.TheVariants.{Working, Found, Refuted}
 use Rattle.search.specs.declared.walker.prefix.Prefix.TheVariants.{Extendable}
-use Rattle.search.specs.Steady.{Steady}
+use Rattle.search.proofs.Steady.{Steady}
 
 pub not_working : (s : Status) → (s ≡ Working → ⊥) → is_working s ≡ false
 not_working Working n = absurd (n refl)

@@ -9,11 +9,4 @@ pub mod Meanings
 pub mod Held
 pub mod Statements
 pub mod Examples
-pub mod Counts
-pub mod Conflicts
-pub mod Order
-pub mod Fills
-pub mod Numbers
-pub mod Steady
-pub mod Walks
-pub mod Trees
+pub mod Lively

@@ -2,12 +2,10 @@ ghost use Rattle.std.specs.Prelude.{◌≡◌, ◌^◌, ◌<◌};
 ghost use Rattle.search.specs.Counting.{counter_start, counter_next, counter_step};
 ghost use Rattle.search.specs.Held.{counter_state};
 ghost use Rattle.search.specs.Limits.{age_limit, capped};
+ghost use Rattle.search.specs.Lively.{held_counter_lively};
 ghost use Rattle.search.specs.Meanings.{counter_view};
 ghost use Rattle.search.specs.States.{aged, last_false};
 ghost use Rattle.search.specs.declared.status.Status.TheVariants.{Found};
-ghost use Rattle.std.proofs.Common.{arith};
-ghost use Rattle.std.proofs.lemmas.List.{length-take};
-ghost use Rattle.search.specs.Counts.{counter_lively};
 
 use crate::counter::Counter;
 use crate::limits::{AGE_LIMIT, MAX_VARIABLES};
@@ -70,7 +68,7 @@ impl Searcher for Counter {
 
     ghost steps = { λ s codes t. counter_state t ≡ counter_step (counter_state s) codes };
 
-    ghost lively = { λ s _ e. counter_lively (counter_state s) (omega (arith, length-take s.variables s.values)) e };
+    ghost lively = { λ c _ working. held_counter_lively c working };
 
     fn begin(&mut self, variables: usize) {
         self.variables = variables.min(MAX_VARIABLES);

@@ -1,11 +1,11 @@
 ghost use Rattle.std.specs.Prelude.{◌≡◌, ◌<◌, false, List, ◌∷◌, ◌++◌};
 ghost use Rattle.search.specs.Held.{walker_state};
 ghost use Rattle.search.specs.Limits.{age_limit, capped};
+ghost use Rattle.search.specs.Lively.{walker_lively};
 ghost use Rattle.search.specs.Meanings.{walker_view, nodes};
 ghost use Rattle.search.specs.States.{aged, last_false};
 ghost use Rattle.search.specs.Walking.{walker_start, prefix_of, walker_back, walker_step};
 ghost use Rattle.search.specs.declared.status.Status.TheVariants.{Found};
-ghost use Rattle.search.specs.Walks.{walker_lively};
 
 use crate::limits::{AGE_LIMIT, MAX_VARIABLES};
 use crate::searcher::Searcher;
@@ -96,7 +96,7 @@ impl Searcher for Walker {
 
     ghost steps = { λ s codes t. walker_state t ≡ walker_step (walker_state s) codes };
 
-    ghost lively = { λ s _ e. walker_lively (walker_state s) e };
+    ghost lively = { λ w _ working. walker_lively (walker_state w) working };
 
     fn begin(&mut self, variables: usize) {
         self.len = 0;

@@ -2,7 +2,7 @@ use Rattle.std.proofs.Common.{◌≡◌, ◌<◌, sym, ap, ◌∙◌, arith}
 use Rattle.search.specs.Limits.{age_limit}
 use Rattle.search.specs.Searching.{here, outcome}
 use Rattle.search.proofs.Standings.{stepped_more, standing_begun, standing_moved, standing_answers}
-use Rattle.search.specs.Conflicts.{working_not_found, working_not_refuted}
+use Rattle.search.proofs.Conflicts.{working_not_found, working_not_refuted}
 use Rattle.search.proofs.running.run.Goals as goal
 use Rattle.search.proofs.running.run.Goals.{else-loop-steps-test, then-loop-steps-test+in_default}
 

@@ -1,7 +1,7 @@
 use Rattle.std.proofs.Common.{◌≡◌, Bool, false, List, ◌++◌, length, take, drop, set, sym, ap, ◌∙◌, subst, arith}
 use Rattle.std.proofs.lemmas.List.{take-append-drop, length-take-le}
 use Rattle.search.specs.States.{filled}
-use Rattle.search.specs.Fills.{filled_same, fill_more}
+use Rattle.search.proofs.Fills.{filled_same, fill_more}
 use Rattle.search.proofs.values.clear.Goals as goal
 
 pub loop-index-init : goal.loop-index-init

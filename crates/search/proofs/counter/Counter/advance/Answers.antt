@@ -3,7 +3,7 @@ use Rattle.std.proofs.lemmas.List.{length-take-le, length-take}
 use Rattle.search.specs.Held.{counter_state}
 use Rattle.search.specs.States.{aged, last_false, filled}
 use Rattle.search.specs.Counting.{counter_next}
-use Rattle.search.specs.Fills.{cut_set, take_filled}
+use Rattle.search.proofs.Fills.{cut_set, take_filled}
 use Rattle.search.proofs.counter.Counter.advance.Goals as goal
 
 pub returns-in-Some : goal.returns-in-Some

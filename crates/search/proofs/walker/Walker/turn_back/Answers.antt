@@ -3,7 +3,7 @@ use Rattle.std.proofs.lemmas.List.{length-take-le}
 use Rattle.search.specs.Held.{walker_state}
 use Rattle.search.specs.States.{aged, last_false}
 use Rattle.search.specs.Walking.{walker_back}
-use Rattle.search.specs.Fills.{cut_set}
+use Rattle.search.proofs.Fills.{cut_set}
 use Rattle.search.proofs.walker.Walker.turn_back.Goals as goal
 
 pub returns-in-Some : goal.returns-in-Some

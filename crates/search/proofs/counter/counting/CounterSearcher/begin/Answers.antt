@@ -4,8 +4,8 @@ use Rattle.search.specs.States.{State, fresh}
 use Rattle.search.specs.Counting.{counter_start}
 use Rattle.search.specs.Meanings.{counter_view}
 use Rattle.search.specs.Searching.{Begun}
-use Rattle.search.specs.Counts.{counter_begun}
-use Rattle.search.specs.Fills.{take_filled}
+use Rattle.search.proofs.Counts.{counter_begun}
+use Rattle.search.proofs.Fills.{take_filled}
 use Rattle.search.proofs.counter.counting.CounterSearcher.begin.Goals as goal
 
 pub returns : goal.returns

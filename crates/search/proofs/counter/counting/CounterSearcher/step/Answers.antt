@@ -5,7 +5,7 @@ use Rattle.search.specs.Held.{counter_state}
 use Rattle.search.specs.Meanings.{counter_reserve}
 use Rattle.search.specs.Counting.{counter_tests, counter_move}
 use Rattle.search.proofs.Steps.{moving, resting, ended}
-use Rattle.search.specs.Counts.{counter_steady}
+use Rattle.search.proofs.Counts.{counter_steady}
 use Rattle.search.proofs.counter.counting.CounterSearcher.step.Goals as goal
 
 pub returns-then-self : goal.returns-then-self

@@ -3,7 +3,7 @@ use Rattle.search.specs.Limits.{capped}
 use Rattle.search.specs.Walking.{walker_start}
 use Rattle.search.specs.Meanings.{nodes, walker_view}
 use Rattle.search.specs.Searching.{Begun}
-use Rattle.search.specs.Walks.{walker_begun}
+use Rattle.search.proofs.Walks.{walker_begun}
 use Rattle.search.proofs.walker.walking.WalkerSearcher.begin.Goals as goal
 
 pub returns : goal.returns

@@ -4,7 +4,7 @@ use Rattle.search.specs.Held.{walker_state}
 use Rattle.search.specs.Meanings.{walker_reserve}
 use Rattle.search.specs.Walking.{walker_by, walker_move}
 use Rattle.search.proofs.Steps.{moving, resting, ended, extendable_room}
-use Rattle.search.specs.Walks.{walker_steady}
+use Rattle.search.proofs.Walks.{walker_steady}
 use Rattle.search.proofs.walker.walking.WalkerSearcher.step.Goals as goal
 
 pub returns-then-self : goal.returns-then-self

@@ -1,8 +1,8 @@
 -- The nodes that a walk has not left behind, as values are turned and added. Rests on specs/States and specs/Meanings.
-use Rattle.std.specs.Prelude.{◌≡◌, ℕ, zero, suc, ◌+◌, ◌^◌, ◌<◌, ◌≤◌, Bool, true, false, List, [], ◌∷◌, ◌++◌, length, Some, None, Option}
-use Rattle.std.proofs.Common.{ap, arith, pow-suc, add-one, pow_pos}
+use Rattle.std.proofs.Common.{◌≡◌, ℕ, zero, suc, ◌+◌, ◌^◌, ◌<◌, ◌≤◌, Bool, true, false, List, [], ◌∷◌, ◌++◌, length, Some, None, Option, ap, arith, pow-suc, pow_pos}
 use Rattle.std.specs.Bool.{beq}
 use Rattle.search.specs.States.{last_at, last_of, last_false, cut}
+use Rattle.search.specs.Lively.{nodes_ahead}
 use Rattle.search.specs.Meanings.{nodes, ahead_nodes}
 
 nodes_suc : (d : ℕ) → nodes (suc d) ≡ 1 + (nodes d + nodes d)
@@ -10,16 +10,6 @@ unfolding nodes
 nodes_suc d =
     let e : suc d + 1 ≡ suc (d + 1) = omega arith in
     omega (arith, ap (λ n. 2 ^ n) e, pow-suc 2 (d + 1), pow_pos (d + 1))
-
-nodes_some : (d : ℕ) → 0 < nodes d
-unfolding nodes
-nodes_some d = omega (arith, ap (λ n. 2 ^ n) (add-one d), pow-suc 2 d, pow_pos d)
-
-pub nodes_ahead : (d : ℕ) (bs : List Bool) → 0 < ahead_nodes d bs
-unfolding ahead_nodes
-nodes_ahead d [] = nodes_some d
-nodes_ahead zero (b ∷ bs) = nodes_ahead zero bs
-nodes_ahead (suc d) (b ∷ bs) = omega (arith, nodes_ahead d bs)
 
 pub nodes_push : (d : ℕ) (bs : List Bool) → length bs < d → ahead_nodes d (bs ++ false ∷ []) + 1 ≡ ahead_nodes d bs
 unfolding ahead_nodes

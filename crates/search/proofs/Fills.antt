@@ -1,6 +1,5 @@
 -- Values filled up with false. Rests on specs/States.
-use Rattle.std.specs.Prelude.{◌≡◌, ℕ, zero, suc, ◌+◌, ◌<◌, ◌≤◌, Bool, true, false, List, [], ◌∷◌, ◌++◌, length, take, drop, set, slice_index_or, slice_set, refl}
-use Rattle.std.proofs.Common.{sym, ap, ◌∙◌, arith, add-one}
+use Rattle.std.proofs.Common.{◌≡◌, ℕ, zero, suc, ◌+◌, ◌<◌, ◌≤◌, Bool, true, false, List, [], ◌∷◌, ◌++◌, length, take, drop, set, get_or, refl, sym, ap, ◌∙◌, arith, add-one}
 use Rattle.std.proofs.lemmas.List.{append_assoc, drop_more, set_at, take_at, take_more_set, take-take}
 use Rattle.search.specs.States.{cut, filled}
 
@@ -30,10 +29,10 @@ length_filled (suc n) [] l = ap suc (length_filled n [] (omega arith))
 length_filled (suc n) (b ∷ bs) l = ap suc (length_filled n bs (omega arith))
 
 -- one more value turned to false
-pub fill_more : (all front : List Bool) (i : ℕ) → length front ≤ i → i < length all → slice_set (filled i front ++ drop i all) i false ≡ filled (i + 1) front ++ drop (i + 1) all
+pub fill_more : (all front : List Bool) (i : ℕ) → length front ≤ i → i < length all → set (filled i front ++ drop i all) i false ≡ filled (i + 1) front ++ drop (i + 1) all
 fill_more all front i l k =
     ap (λ r. set (filled i front ++ r) i false) (drop_more all i false k)
-    ∙ set_at (filled i front) (slice_index_or all i false) (drop (i + 1) all) false i (length_filled i front l)
+    ∙ set_at (filled i front) (get_or all i false) (drop (i + 1) all) false i (length_filled i front l)
     ∙ sym (append_assoc (filled i front) (false ∷ []) (drop (i + 1) all))
     ∙ ap (λ f. f ++ drop (i + 1) all) (filled_push i front l)
 
@@ -41,6 +40,6 @@ pub take_filled : (n : ℕ) (front rest : List Bool) → length front ≤ n → 
 take_filled n front rest l = take_at (filled n front) rest n (length_filled n front l)
 
 -- the value at an index turned to true, and those from it on left out
-pub cut_set : (values : List Bool) (len i : ℕ) → i < len → len ≤ length values → take (i + 1) (slice_set values i true) ≡ cut (take len values) i
+pub cut_set : (values : List Bool) (len i : ℕ) → i < len → len ≤ length values → take (i + 1) (set values i true) ≡ cut (take len values) i
 cut_set values len i l k =
     take_more_set values i true (omega arith) ∙ ap (λ f. f ++ true ∷ []) (sym (take-take i len values (omega arith)))

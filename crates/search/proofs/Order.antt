@@ -1,6 +1,5 @@
 -- The assignments that agree with some values or come after them, as values are turned, filled and added. Rests on specs/States and specs/Meanings.
-use Rattle.std.specs.Prelude.{◌≡◌, ℕ, zero, suc, ◌+◌, ◌-◌, ◌<◌, Bool, true, false, ◌⊎◌, List, [], ◌∷◌, ◌++◌, length, get_or, Some, None, Option, slice_index_or, refl}
-use Rattle.std.proofs.Common.{sym, ap, ◌∙◌, inl, inr, ⊎_elim, arith}
+use Rattle.std.proofs.Common.{◌≡◌, ℕ, zero, suc, ◌+◌, ◌-◌, ◌<◌, Bool, true, false, ◌⊎◌, List, [], ◌∷◌, ◌++◌, length, get_or, Some, None, Option, refl, sym, ap, ◌∙◌, inl, inr, ⊎_elim, arith}
 use Rattle.std.specs.Bool.{beq}
 use Rattle.std.proofs.lemmas.Bool.{cases_Bool, true≢false}
 use Rattle.clauses.specs.Meaning.{Assignment, Extends, assigned}
@@ -12,7 +11,7 @@ abbrev pub Same : ℕ → List Bool → Assignment → Type 0
 Same v [] α = Unit {0}
 Same v (b ∷ bs) α = (α v ≡ b) × Same (suc v) bs α
 
-same_at : (bs : List Bool) (v : ℕ) (α : Assignment) → Same v bs α → (i : ℕ) → i < length bs → α (v + i) ≡ slice_index_or bs i false
+same_at : (bs : List Bool) (v : ℕ) (α : Assignment) → Same v bs α → (i : ℕ) → i < length bs → α (v + i) ≡ get_or bs i false
 same_at [] v α s i l = absurd (omega arith)
 same_at (b ∷ bs) v α (e, s) zero l = let z : v + 0 ≡ v = omega arith in rw z e
 same_at (b ∷ bs) v α (e, s) (suc i) l =
@@ -87,7 +86,7 @@ same_order (x ∷ xs) (y ∷ ys) v α β l (e, s) (f, t) (inl (p, a)) (inr (q, b
 same_order (x ∷ xs) (y ∷ ys) v α β l (e, s) (f, t) (inr (p, a)) (inl (q, b)) = absurd (true≢false (sym a ∙ e ∙ sym q ∙ f ∙ p))
 same_order (x ∷ xs) (y ∷ ys) v α β l (e, s) (f, t) (inr (p, a)) (inr (q, b)) = absurd (true≢false (sym a ∙ e ∙ q))
 
-same_from : (bs : List Bool) (v : ℕ) (α : Assignment) → ((i : ℕ) → i < length bs → α (v + i) ≡ slice_index_or bs i false) → Same v bs α
+same_from : (bs : List Bool) (v : ℕ) (α : Assignment) → ((i : ℕ) → i < length bs → α (v + i) ≡ get_or bs i false) → Same v bs α
 same_from [] v α h = tt
 same_from (b ∷ bs) v α h = (
   let z : v + 0 ≡ v = omega arith in sym (ap α z) ∙ h 0 (omega arith),

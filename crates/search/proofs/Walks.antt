@@ -1,7 +1,5 @@
 -- A step of the walker is a step of a searcher. Rests on specs/Walking and specs/Meanings.
-use Rattle.std.specs.Prelude.{◌≡◌, ℕ, ◌<◌, ◌≤◌, Bool, true, false, List, length, Some, None, Option, ◌==◌}
-use Rattle.std.proofs.Math.Path.{refl}
-use Rattle.std.proofs.Common.{sym, subst, arith}
+use Rattle.std.proofs.Common.{◌≡◌, ℕ, ◌<◌, ◌≤◌, Bool, true, false, List, length, Some, None, Option, ◌==◌, refl, sym, subst, arith}
 use Rattle.std.proofs.lemmas.List.{length_push}
 use Rattle.std.proofs.lemmas.Bool.{eqb-true, eqb-false}
 use Rattle.clauses.specs.Meaning.{Assignment, MeetsAll}
@@ -9,13 +7,14 @@ use Rattle.clauses.specs.Falsity.{first_false_row}
 use Rattle.search.specs.Searching.{Begun}
 use Rattle.search.specs.States.{State, last_false, cut}
 use Rattle.search.specs.Walking.{walker_start, prefix_at, prefix_of, walker_back, walker_by, walker_move}
-use Rattle.search.specs.Meanings.{Open, nodes, ahead_nodes, walker_reserve, walker_view}
+use Rattle.search.specs.Lively.{nodes_ahead}
+use Rattle.search.specs.Meanings.{Open, nodes, ahead_nodes, walker_view}
 use Rattle.search.specs.declared.status.Status.{Status}
 use Rattle.search.specs.declared.status.Status.TheVariants.{Working}
-use Rattle.search.specs.Conflicts.{conflict_onward, full_meets, working_not_found, working_not_refuted, found_not_refuted}
-use Rattle.search.specs.Order.{ahead_push, ahead_none}
-use Rattle.search.specs.Steady.{Partial, Steady}
-use Rattle.search.specs.Trees.{nodes_ahead, nodes_push, Fewer, fewer}
+use Rattle.search.proofs.Conflicts.{conflict_onward, full_meets, working_not_found, working_not_refuted, found_not_refuted}
+use Rattle.search.proofs.Order.{ahead_push, ahead_none}
+use Rattle.search.proofs.Steady.{Partial, Steady}
+use Rattle.search.proofs.Trees.{nodes_push, Fewer, fewer}
 
 abbrev pub walking : ℕ → List Bool → ℕ → State
 walking variables values age = record { variables = variables; values = values; status = Working; age = age }
@@ -111,8 +110,3 @@ walker_begun variables = record {
   begun_status = refl;
   begun_open = λ α. ahead_none 1 α;
 }
-
-pub walker_lively : (s : State) → s.status ≡ Working → 0 < (walker_view s).reserve
-walker_lively s working =
-    let P : Status → Type 0 = λ w. 0 < walker_reserve w s.variables s.values in
-    subst P (sym working) (nodes_ahead s.variables s.values)

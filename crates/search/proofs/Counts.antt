@@ -1,20 +1,19 @@
 -- A step of the counter is a step of a searcher. Rests on specs/Counting and specs/Meanings.
-use Rattle.std.specs.Prelude.{◌≡◌, ℕ, ◌^◌, ◌<◌, ◌≤◌, Bool, List, [], length, Some, None, Option}
-use Rattle.std.proofs.Math.Path.{refl}
-use Rattle.std.proofs.Common.{sym, subst, arith, pow_mono}
+use Rattle.std.proofs.Common.{◌≡◌, ℕ, ◌^◌, ◌<◌, ◌≤◌, Bool, List, [], length, Some, None, Option, refl, sym, subst, arith}
 use Rattle.clauses.specs.Meaning.{Assignment, MeetsAll}
 use Rattle.clauses.specs.Falsity.{first_false_row}
 use Rattle.search.specs.Searching.{Begun}
 use Rattle.search.specs.States.{State, last_false, cut, filled}
 use Rattle.search.specs.Counting.{counter_start, counter_next, counter_tests, counter_move}
-use Rattle.search.specs.Meanings.{Open, counter_reserve, counter_view}
+use Rattle.search.specs.Lively.{number_below}
+use Rattle.search.specs.Meanings.{Open, counter_view}
 use Rattle.search.specs.declared.status.Status.{Status}
 use Rattle.search.specs.declared.status.Status.TheVariants.{Working}
-use Rattle.search.specs.Conflicts.{conflict_onward, full_meets, working_not_found, working_not_refuted, found_not_refuted}
-use Rattle.search.specs.Fills.{length_filled}
-use Rattle.search.specs.Numbers.{number_below, number_falses, Counts, counts}
-use Rattle.search.specs.Order.{ahead_filled, ahead_none}
-use Rattle.search.specs.Steady.{Whole, Steady}
+use Rattle.search.proofs.Conflicts.{conflict_onward, full_meets, working_not_found, working_not_refuted, found_not_refuted}
+use Rattle.search.proofs.Fills.{length_filled}
+use Rattle.search.proofs.Numbers.{number_falses, Counts, counts}
+use Rattle.search.proofs.Order.{ahead_filled, ahead_none}
+use Rattle.search.proofs.Steady.{Whole, Steady}
 
 -- a working counter that has a value for each variable
 abbrev pub counting : List Bool → ℕ → State
@@ -90,8 +89,3 @@ counter_begun variables = record {
   begun_status = refl;
   begun_open = λ α. ahead_filled variables [] 1 α (ahead_none 1 α);
 }
-
-pub counter_lively : (s : State) → length s.values ≤ s.variables → s.status ≡ Working → 0 < (counter_view s).reserve
-counter_lively s short working =
-    let P : Status → Type 0 = λ w. 0 < counter_reserve w s.variables s.values in
-    subst P (sym working) (omega (arith, number_below s.values, pow_mono short))

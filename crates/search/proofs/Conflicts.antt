@@ -1,13 +1,12 @@
 -- What a clause that is false tells of the open assignments, and what it tells that there is none. Rests on clauses' Statements.
-use Rattle.std.specs.Prelude.{◌≡◌, ℕ, ◌≤◌, Bool, List, length, Some, None, Option}
-use Rattle.std.proofs.Common.{sym, subst, ⊎_elim, arith}
+use Rattle.std.proofs.Common.{◌≡◌, ℕ, ◌≤◌, Bool, List, length, Some, None, Option, sym, subst, ⊎_elim, arith}
 use Rattle.clauses.specs.Meaning.{Assignment, MeetsAll, assigned}
 use Rattle.clauses.specs.Falsity.{first_false_row}
 use Rattle.clauses.proofs.Tells.{told_as, told_all_as}
 use Rattle.search.specs.States.{last_false}
 use Rattle.search.specs.Meanings.{Ahead}
 use Rattle.search.specs.declared.status.Status.TheVariants.{Working, Found, Refuted}
-use Rattle.search.specs.Order.{Same, same_extends, Onward, ahead_onward}
+use Rattle.search.proofs.Order.{Same, same_extends, Onward, ahead_onward}
 
 module _ (top : ℕ) (values : List Bool) (codes : List ℕ) where
   -- with a false clause, what meets all the clauses and is ahead comes after the last false

@@ -1,16 +1,9 @@
 -- Values as a number: the next values are the next number. Rests on specs/States and specs/Meanings.
-use Rattle.std.specs.Prelude.{◌≡◌, ℕ, zero, suc, ◌+◌, ◌^◌, ◌<◌, ◌≤◌, Bool, true, false, List, [], ◌∷◌, length, Some, None, Option, refl}
-use Rattle.std.proofs.Common.{ap, arith, pow-suc}
+use Rattle.std.proofs.Common.{◌≡◌, ℕ, zero, suc, ◌+◌, ◌^◌, ◌<◌, ◌≤◌, Bool, true, false, List, [], ◌∷◌, length, Some, None, Option, refl, ap, arith, pow-suc}
 use Rattle.std.specs.Bool.{beq}
 use Rattle.search.specs.States.{last_at, last_of, last_false, cut, filled}
 use Rattle.search.specs.Meanings.{number}
-use Rattle.search.specs.Fills.{length_filled}
-
-pub number_below : (bs : List Bool) → number bs < 2 ^ length bs
-unfolding number
-number_below [] = omega arith
-number_below (true ∷ bs) = omega (arith, number_below bs, pow-suc 2 (length bs))
-number_below (false ∷ bs) = omega (arith, number_below bs, pow-suc 2 (length bs))
+use Rattle.search.proofs.Fills.{length_filled}
 
 pub number_falses : (n : ℕ) → number (filled n []) ≡ 0
 unfolding number filled

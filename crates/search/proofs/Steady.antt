@@ -1,5 +1,5 @@
 -- Steps of a machine that move as a searcher's do, and close nothing that meets all the clauses. Rests on specs/Searching and specs/Meanings.
-use Rattle.std.specs.Prelude.{◌≡◌, ℕ, ◌≤◌, List, length}
+use Rattle.std.proofs.Common.{◌≡◌, ℕ, ◌≤◌, List, length}
 use Rattle.clauses.specs.Meaning.{Assignment, MeetsAll}
 use Rattle.search.specs.Searching.{View, Moved}
 use Rattle.search.specs.States.{State}
