@@ -1,5 +1,5 @@
 -- A step of the counter is a step of a searcher. Rests on specs/Counting and specs/Meanings.
-use Rattle.std.proofs.Common.{◌≡◌, ℕ, ◌^◌, ◌<◌, ◌≤◌, Bool, List, [], length, Some, None, Option, refl, sym, subst, arith}
+use Rattle.std.proofs.Common.{◌≡◌, ℕ, ◌^◌, Bool, List, [], length, Some, None, Option, refl, sym, subst, arith}
 use Rattle.clauses.specs.Meaning.{Assignment, MeetsAll}
 use Rattle.clauses.specs.Falsity.{first_false_row}
 use Rattle.search.specs.Searching.{Begun}

@@ -1,5 +1,5 @@
 -- Values as a number: the next values are the next number. Rests on specs/States and specs/Meanings.
-use Rattle.std.proofs.Common.{◌≡◌, ℕ, zero, suc, ◌+◌, ◌^◌, ◌<◌, ◌≤◌, Bool, true, false, List, [], ◌∷◌, length, Some, None, Option, refl, ap, arith, pow-suc}
+use Rattle.std.proofs.Common.{◌≡◌, ℕ, zero, suc, ◌+◌, ◌^◌, ◌≤◌, Bool, true, false, List, [], ◌∷◌, length, Some, None, Option, refl, ap, arith, pow-suc}
 use Rattle.std.specs.Bool.{beq}
 use Rattle.search.specs.States.{last_at, last_of, last_false, cut, filled}
 use Rattle.search.specs.Meanings.{number}

@@ -1,5 +1,5 @@
 -- A working counter or walker has a reserve left: what the impls' laws cite. Rests on Held and Meanings.
-use Rattle.std.specs.Prelude.{◌≡◌, ℕ, zero, suc, ◌+◌, ◌^◌, ◌<◌, ◌≤◌, Bool, true, false, List, [], ◌∷◌, length}
+use Rattle.std.specs.Prelude.{◌≡◌, ℕ, zero, suc, ◌^◌, ◌<◌, ◌≤◌, Bool, true, false, List, [], ◌∷◌, length}
 use Rattle.std.proofs.Common.{sym, ap, subst, arith, add-one, pow-suc, pow_pos, pow_mono}
 use Rattle.std.proofs.lemmas.List.{length-take}
 use Rattle.search.specs.Held.{counter_state}
