@@ -14,7 +14,7 @@ import glob
 import os
 import re
 
-# Spelled as the others they would be read as a Rust function or field of their crate.
+# Names that are no case of the rule, and names that, spelled by it, would be those of a Rust function or field.
 OTHERS = {
     "first-false": "first_false_row",
     "pair-count": "count_of_pairs",
@@ -23,6 +23,11 @@ OTHERS = {
     "lot-named": "lot_of_named",
     "over-lots": "tree_over_lots",
     "D-turn": "dashed_turn",
+    "goesOn": "continues",
+    "rightOf": "right_level",
+    "joinNode": "join_node",
+    "layerOf": "layer_of",
+    "Walks_to": "WalksTo",
 }
 
 NAME = r"[^\s(){}\[\],;.:λ→×«»|⌜⌝\"`]+"
@@ -46,6 +51,10 @@ def rt_files():
 def text_of(path):
     with open(path, encoding="utf-8") as f:
         return f.read()
+
+
+def is_old(name):
+    return name in OTHERS or "-" in name[1:]
 
 
 def respelled(name):
@@ -74,7 +83,7 @@ def own_names():
             field = FIELD.match(line)
             if field:
                 names.add(field.group(1))
-    return {name for name in names if "-" in name[1:]}
+    return {name for name in names if is_old(name)}
 
 
 def std_names(text):
@@ -90,7 +99,7 @@ def turn_antt(path, text, names):
 
     def turned(found):
         before, name = found.group(1), found.group(2)
-        if name in std or "-" not in name[1:] or not re.match(r"\w", name):
+        if name in std or not is_old(name) or not re.match(r"\w", name):
             return found.group(0)
         if generated and (GOAL.search(name) or before == "."):
             # after a dot only the fields of the repository's own records

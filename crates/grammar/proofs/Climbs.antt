@@ -16,7 +16,7 @@ use Rattle.grammar.specs.Grammar.{pair}
 use Rattle.grammar.specs.Reads.{Reads, pair_read, not_read, parens_read, part_read}
 use Rattle.grammar.specs.Words.{weight, words}
 use Rattle.grammar.specs.Drafts.{nodes_in, names_in}
-use Rattle.grammar.specs.Climbing.{goesOn, word_of, rightOf, joinNode, closer, linked, Stops, filled, Got, Climbed}
+use Rattle.grammar.specs.Climbing.{continues, word_of, right_level, join_node, closer, linked, Stops, filled, Got, Climbed}
 use Rattle.grammar.proofs.Hopes.{closer_is, linked_is}
 use Rattle.grammar.proofs.Ready.{Ready, Head, ready_joint, from_part, join, joins, shape, counted}
 use Rattle.grammar.proofs.Numbering.{top_numbered, listed_append, listed_holds, holds_keeps}
@@ -70,16 +70,16 @@ close_at ts i f =
     let m = length-drop i ts in
     (g ∙ ap (λ s. Close ∷ s) (drop-drop 1 i ts), omega arith)
 
-word_is : (l : Level) (ks : List Token) (k : Token) → word_of ks l ≡ Some k → (ks ≡ k ∷ drop 1 ks) × (goesOn k l ≡ true)
+word_is : (l : Level) (ks : List Token) (k : Token) → word_of ks l ≡ Some k → (ks ≡ k ∷ drop 1 ks) × (continues k l ≡ true)
 word_is l [] k e = absurd (none_token e)
-word_is l (j ∷ ks) k e = go (goesOn j l) refl e
+word_is l (j ∷ ks) k e = go (continues j l) refl e
   where
-    go : (b : Bool) → goesOn j l ≡ b → cond b (Some j) None ≡ Some k → (j ∷ ks ≡ k ∷ ks) × (goesOn k l ≡ true)
-    go true g f = let s : j ≡ k = cc in (ap (λ x. x ∷ ks) s, ap (λ x. goesOn x l) (sym s) ∙ g)
+    go : (b : Bool) → continues j l ≡ b → cond b (Some j) None ≡ Some k → (j ∷ ks ≡ k ∷ ks) × (continues k l ≡ true)
+    go true g f = let s : j ≡ k = cc in (ap (λ x. x ∷ ks) s, ap (λ x. continues x l) (sym s) ∙ g)
     go false g f = absurd (none_token f)
 
 pub word_at : (l : Level) (ts : List Token) (i : ℕ) (k : Token) → word_of (drop i ts) l ≡ Some k
-    → (drop i ts ≡ k ∷ drop (i + 1) ts) × (goesOn k l ≡ true) × (i < length ts)
+    → (drop i ts ≡ k ∷ drop (i + 1) ts) × (continues k l ≡ true) × (i < length ts)
 word_at l ts i k e =
     let g = word_is l (drop i ts) k e in
     let n = ap length g.0 in
@@ -88,13 +88,13 @@ word_at l ts i k e =
 
 pub no_word : (l : Level) (ks : List Token) → word_of ks l ≡ None → Stops l ks
 no_word l [] e = tt
-no_word l (k ∷ ks) e = go (goesOn k l) e
+no_word l (k ∷ ks) e = go (continues k l) e
   where
     go : (b : Bool) → cond b (Some k) None ≡ None → b ≡ false
     go true f = absurd (none_token (sym f))
     go false f = refl
 
-pub word_weight : (l : Level) (k : Token) → goesOn k l ≡ true → weight k ≡ 1
+pub word_weight : (l : Level) (k : Token) → continues k l ≡ true → weight k ≡ 1
 word_weight l Open e = absurd (false≢true e)
 word_weight l Close e = absurd (false≢true e)
 word_weight l (Name a) e = absurd (false≢true e)
@@ -155,11 +155,11 @@ glue a b c d p q j e f g = g ∙ ap (λ s. s ++ j) (f ∙ ap (λ s. s ++ q) e) �
 
 -- the nodes of a word behind those of its two sides, all by the last list of names
 from_sides : (before mid late after : Draft) {nd n : ℕ} (k : Token) (l : Level) (a b : Phrase)
-    → goesOn k l ≡ true
+    → continues k l ≡ true
     → names_in mid ≡ listed (names_in before) (names_of a) → names_in late ≡ listed (names_in mid) (names_of b) → names_in after ≡ names_in late
     → nodes_in mid ≡ nodes_in before ++ post (filled before) (numbered (names_in mid) a)
     → nodes_in late ≡ nodes_in mid ++ post (filled mid) (numbered (names_in late) b)
-    → nodes_in after ≡ nodes_in late ++ joinNode k nd n ∷ []
+    → nodes_in after ≡ nodes_in late ++ join_node k nd n ∷ []
     → nd ≡ top (filled before) a → filled mid ≡ suc nd → n ≡ top (filled mid) b
     → nodes_in after ≡ nodes_in before ++ post (filled before) (numbered (names_in after) (join k a b))
 from_sides before mid late after {nd} {n} k l a b g names_1 names_2 names_3 nodes_1 nodes_2 nodes_3 nd_is mid_is n_is =
@@ -173,19 +173,19 @@ from_sides before mid late after {nd} {n} k l a b g names_1 names_2 names_3 node
     let top_a : top (filled before) (numbered ns a) ≡ nd = top_numbered ns (filled before) a ∙ sym nd_is in
     let next : suc (top (filled before) (numbered ns a)) ≡ filled mid = ap suc top_a ∙ sym mid_is in
     let top_b : top (filled mid) (numbered ns b) ≡ n = top_numbered ns (filled mid) b ∙ sym n_is in
-    let all = glue (nodes_in before) (nodes_in mid) (nodes_in late) (nodes_in after) (post (filled before) (numbered ns a)) (post (filled mid) (numbered ns b)) (joinNode k nd n ∷ [])
+    let all = glue (nodes_in before) (nodes_in mid) (nodes_in late) (nodes_in after) (post (filled before) (numbered ns a)) (post (filled mid) (numbered ns b)) (join_node k nd n ∷ [])
     (nodes_1 ∙ ap (λ s. nodes_in before ++ post (filled before) s) same_a) (nodes_2 ∙ ap (λ s. nodes_in mid ++ post (filled mid) s) same_b) nodes_3 in
     all
     ∙ sym (ap (λ s. nodes_in before ++ s) (w.nodes
-    ∙ ap (λ i. post (filled before) (numbered ns a) ++ (post i (numbered ns b) ++ joinNode k (top (filled before) (numbered ns a)) (top i (numbered ns b)) ∷ [])) next
-    ∙ ap (λ i. post (filled before) (numbered ns a) ++ (post (filled mid) (numbered ns b) ++ joinNode k i (top (filled mid) (numbered ns b)) ∷ [])) top_a
-    ∙ ap (λ i. post (filled before) (numbered ns a) ++ (post (filled mid) (numbered ns b) ++ joinNode k nd i ∷ [])) top_b))
+    ∙ ap (λ i. post (filled before) (numbered ns a) ++ (post i (numbered ns b) ++ join_node k (top (filled before) (numbered ns a)) (top i (numbered ns b)) ∷ [])) next
+    ∙ ap (λ i. post (filled before) (numbered ns a) ++ (post (filled mid) (numbered ns b) ++ join_node k i (top (filled mid) (numbered ns b)) ∷ [])) top_a
+    ∙ ap (λ i. post (filled before) (numbered ns a) ++ (post (filled mid) (numbered ns b) ++ join_node k nd i ∷ [])) top_b))
 
 pub from_word : {l : Level} {ts : List Token} {at end e nd n r : ℕ} {before mid late after : Draft} (k : Token)
     → Climbing l ts at end nd before mid
-    → drop end ts ≡ k ∷ drop (end + 1) ts → goesOn k l ≡ true
-    → Climbed (rightOf k) ts (end + 1) e n mid late
-    → r ≡ filled late → names_in after ≡ names_in late → nodes_in after ≡ nodes_in late ++ joinNode k nd n ∷ []
+    → drop end ts ≡ k ∷ drop (end + 1) ts → continues k l ≡ true
+    → Climbed (right_level k) ts (end + 1) e n mid late
+    → r ≡ filled late → names_in after ≡ names_in late → nodes_in after ≡ nodes_in late ++ join_node k nd n ∷ []
     → Climbing l ts at e r before after
 from_word {l} {ts} {at} {end} {e} {nd} {n} {r} {before} {mid} {late} {after} k x d g y rk m h =
     let a = x.0.tree in

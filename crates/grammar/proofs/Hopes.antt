@@ -10,7 +10,7 @@ use Rattle.grammar.specs.declared.name.Named.{Named}
 use Rattle.grammar.specs.Reads.{Reads}
 use Rattle.grammar.specs.declared.state.State.TheVariants.{WantPart, HaveName, WantName, HavePart, Lost}
 use Rattle.grammar.specs.Automaton.{run, ended}
-use Rattle.grammar.specs.Climbing.{goesOn, closer, linked, name_first, Hopeless, Stops}
+use Rattle.grammar.specs.Climbing.{continues, closer, linked, name_first, Hopeless, Stops}
 use Rattle.grammar.proofs.Complete.{moves}
 use Rattle.grammar.proofs.Prefixes.{run_lost}
 
@@ -25,7 +25,7 @@ EndsNowhere r = (d : ℕ) → ended (run (HavePart d) r) ≡ true → ⊥
 pub hopeless_after : {l : Level} {ts r : List Token} {t : Phrase} → Reads l ts r t → EndsNowhere r → Hopeless ts
 hopeless_after x h d e = h d (sym (ap ended (moves x d)) ∙ e)
 
-pub hopeless_word : (l : Level) (k : Token) (m : List Token) → goesOn k l ≡ true → Hopeless m → EndsNowhere (k ∷ m)
+pub hopeless_word : (l : Level) (k : Token) (m : List Token) → continues k l ≡ true → Hopeless m → EndsNowhere (k ∷ m)
 hopeless_word l Open m g h d e = absurd (false≢true g)
 hopeless_word l Close m g h d e = absurd (false≢true g)
 hopeless_word l (Name n) m g h d e = absurd (false≢true g)

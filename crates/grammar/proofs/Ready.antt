@@ -11,7 +11,7 @@ use Rattle.grammar.specs.declared.name.Named.{Named}
 use Rattle.grammar.specs.Reads.{Reads, pair_read, not_read, parens_read, part_read, and_read, conjunction_read, or_read, disjunction_read, then_read}
 use Rattle.formula.specs.Table.{top, post}
 use Rattle.grammar.specs.Words.{words}
-use Rattle.grammar.specs.Climbing.{over_part, over_joint, over_choice, goesOn, rightOf, joinNode, Stops}
+use Rattle.grammar.specs.Climbing.{over_part, over_joint, over_choice, continues, right_level, join_node, Stops}
 
 abbrev pub Head : List Token → Token → List Token → Phrase → Type 0
 Head ts Open m a = Unit {0}
@@ -96,8 +96,8 @@ join (Or p) a b = or p a b
 join (Then p) a b = then p a b
 
 -- a word, its left side and its right side
-pub joins : {m : List Token} {b : Phrase} (l : Level) (ts : List Token) (a : Phrase) (k : Token) (r : List Token) → goesOn k l ≡ true
-    → Head ts k m a → Reads (rightOf k) m r b → Stops (rightOf k) r
+pub joins : {m : List Token} {b : Phrase} (l : Level) (ts : List Token) (a : Phrase) (k : Token) (r : List Token) → continues k l ≡ true
+    → Head ts k m a → Reads (right_level k) m r b → Stops (right_level k) r
     → Reads l ts r (join k a b) × Ready ts r (join k a b)
 joins l ts a Open r e h x s = absurd (false≢true e)
 joins l ts a Close r e h x s = absurd (false≢true e)
@@ -114,9 +114,9 @@ pub record Shape (ns : List Named) (k : Token) (n : ℕ) (a b : Phrase) : Type 0
   pub names : names_of (join k a b) ≡ names_of a ++ names_of b
   pub nodes : post n (numbered ns (join k a b))
       ≡ post n (numbered ns a) ++ (post (suc (top n (numbered ns a))) (numbered ns b)
-      ++ joinNode k (top n (numbered ns a)) (top (suc (top n (numbered ns a))) (numbered ns b)) ∷ [])
+      ++ join_node k (top n (numbered ns a)) (top (suc (top n (numbered ns a))) (numbered ns b)) ∷ [])
 
-pub shape : (ns : List Named) (l : Level) (k : Token) → goesOn k l ≡ true → (n : ℕ) (a b : Phrase) → Shape ns k n a b
+pub shape : (ns : List Named) (l : Level) (k : Token) → continues k l ≡ true → (n : ℕ) (a b : Phrase) → Shape ns k n a b
 shape ns l Open e n a b = absurd (false≢true e)
 shape ns l Close e n a b = absurd (false≢true e)
 shape ns l (Name c) e n a b = absurd (false≢true e)

@@ -36,42 +36,42 @@ over_choice Conjunction = false
 over_choice Part = false
 
 -- whether a phrase of the level goes on over the word
-abbrev pub goesOn : Token → Level → Bool
-goesOn Open l = false
-goesOn Close l = false
-goesOn (Name a) l = false
-goesOn (With p) l = false
-goesOn (Not p) l = false
-goesOn (And p) l = over_part l
-goesOn (Or p) l = over_joint l
-goesOn (Then p) l = over_choice l
+abbrev pub continues : Token → Level → Bool
+continues Open l = false
+continues Close l = false
+continues (Name a) l = false
+continues (With p) l = false
+continues (Not p) l = false
+continues (And p) l = over_part l
+continues (Or p) l = over_joint l
+continues (Then p) l = over_choice l
 
 -- the word that comes first, where a phrase of the level goes on over it
 abbrev pub word_of : List Token → Level → Option Token
 word_of [] l = None
-word_of (k ∷ ks) l = cond (goesOn k l) (Some k) None
+word_of (k ∷ ks) l = cond (continues k l) (Some k) None
 
 -- the level of what stands to the right of the word
-abbrev pub rightOf : Token → Level
-rightOf Open = Part
-rightOf Close = Part
-rightOf (Name a) = Part
-rightOf (With p) = Part
-rightOf (Not p) = Part
-rightOf (And p) = Part
-rightOf (Or p) = Conjunction
-rightOf (Then p) = Rule
+abbrev pub right_level : Token → Level
+right_level Open = Part
+right_level Close = Part
+right_level (Name a) = Part
+right_level (With p) = Part
+right_level (Not p) = Part
+right_level (And p) = Part
+right_level (Or p) = Conjunction
+right_level (Then p) = Rule
 
 -- the node of a word over two others; no other token is given
-abbrev pub joinNode : Token → ℕ → ℕ → Node (Pair ℕ)
-joinNode Open a b = node.Not 0 a
-joinNode Close a b = node.Not 0 a
-joinNode (Name n) a b = node.Not 0 a
-joinNode (With p) a b = node.Not 0 a
-joinNode (Not p) a b = node.Not 0 a
-joinNode (And p) a b = node.And p a b
-joinNode (Or p) a b = node.Or p a b
-joinNode (Then p) a b = node.Then p a b
+abbrev pub join_node : Token → ℕ → ℕ → Node (Pair ℕ)
+join_node Open a b = node.Not 0 a
+join_node Close a b = node.Not 0 a
+join_node (Name n) a b = node.Not 0 a
+join_node (With p) a b = node.Not 0 a
+join_node (Not p) a b = node.Not 0 a
+join_node (And p) a b = node.And p a b
+join_node (Or p) a b = node.Or p a b
+join_node (Then p) a b = node.Then p a b
 
 abbrev pub is_close : Token → Bool
 is_close Open = false
@@ -122,7 +122,7 @@ Hopeless ts = (d : ℕ) → ended (run (WantPart d) ts) ≢ true
 
 abbrev pub Stops : Level → List Token → Type 0
 Stops l [] = Unit {0}
-Stops l (k ∷ ks) = goesOn k l ≡ false
+Stops l (k ∷ ks) = continues k l ≡ false
 
 -- how many nodes a draft has
 abbrev pub filled : Draft → ℕ

@@ -1,5 +1,5 @@
 ghost use Rattle.std.specs.Prelude.{◌≡◌, ℕ, ◌+◌, ◌<◌, ◌≤◌, length, drop, MatchOption};
-ghost use Rattle.grammar.specs.Climbing.{goesOn, word_of, rightOf, joinNode, closer, linked, Hopeless, Climbed};
+ghost use Rattle.grammar.specs.Climbing.{continues, word_of, right_level, join_node, closer, linked, Hopeless, Climbed};
 ghost use Rattle.grammar.specs.Drafts.{nodes_in};
 ghost use Rattle.grammar.specs.Words.{words};
 
@@ -11,7 +11,7 @@ use formula::node::{Node, Pair};
 
 /// Whether a phrase of the level goes on over the word.
 fn goes_on(op: Token, least: Level) -> bool
-    ensures { result ≡ goesOn op least }
+    ensures { result ≡ continues op least }
 {
     match op {
         Token::And(_) => !matches!(least, Level::Part),
@@ -33,7 +33,7 @@ fn word(rest: &[Token], least: Level) -> Option<Token>
 
 /// The level of what stands to the right of the word: only `then` takes a whole rule.
 fn right_of(op: Token) -> Level
-    ensures { result ≡ rightOf op }
+    ensures { result ≡ right_level op }
 {
     match op {
         Token::Or(_) => Level::Conjunction,
@@ -44,7 +44,7 @@ fn right_of(op: Token) -> Level
 
 /// The node of the word over two others.
 fn joined(op: Token, left: usize, right: usize) -> Node<Pair<usize>>
-    ensures { result ≡ joinNode op left right }
+    ensures { result ≡ join_node op left right }
 {
     match op {
         Token::And(place) => Node::And { place, left, right },

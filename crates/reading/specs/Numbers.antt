@@ -22,10 +22,10 @@ carried_of (Text (NameTooLong p)) = p
 carried_of (OutOfGrammar p) = p
 carried_of (TooManyNodes n) = n
 
-abbrev pub layerOf : RuleFault → Layer
-layerOf (Text f) = layer.Text
-layerOf (OutOfGrammar p) = layer.Rule
-layerOf (TooManyNodes n) = layer.Rule
+abbrev pub layer_of : RuleFault → Layer
+layer_of (Text f) = layer.Text
+layer_of (OutOfGrammar p) = layer.Rule
+layer_of (TooManyNodes n) = layer.Rule
 
 -- the layer as it is printed
 abbrev pub word_of : Layer → List ℕ

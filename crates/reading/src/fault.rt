@@ -1,5 +1,5 @@
 ghost use Rattle.std.specs.Prelude.{◌≡◌};
-ghost use Rattle.reading.specs.Numbers.{number_of, carried_of, layerOf, word_of};
+ghost use Rattle.reading.specs.Numbers.{number_of, carried_of, layer_of, word_of};
 ghost use Rattle.reading.specs.declared.fault.RuleFault.TheVariants.{Text};
 
 /// What is wrong with the text of a line.
@@ -66,7 +66,7 @@ impl RuleFault {
 
     /// The layer that refuses.
     pub fn layer(self) -> Layer
-        ensures { result ≡ layerOf self }
+        ensures { result ≡ layer_of self }
     {
         match self {
             RuleFault::Text(_) => Layer::Text,

@@ -20,10 +20,10 @@ abbrev pub walking : ℕ → List Bool → ℕ → State
 walking variables values age = record { variables = variables; values = values; status = Working; age = age }
 
 module _ (variables : ℕ) (values : List Bool) (age : ℕ) (codes : List ℕ) (short : length values ≤ variables) where
-  abbrev Walks_to : State → Type 0
-  Walks_to = Steady walker_view Partial codes (walking variables values age)
+  abbrev WalksTo : State → Type 0
+  WalksTo = Steady walker_view Partial codes (walking variables values age)
 
-  back_steady : (row : ℕ) → first_false_row variables values codes ≡ Some row → (o : Option ℕ) → last_false values ≡ o → Walks_to (walker_back (walking variables values age) o)
+  back_steady : (row : ℕ) → first_false_row variables values codes ≡ Some row → (o : Option ℕ) → last_false values ≡ o → WalksTo (walker_back (walking variables values age) o)
   back_steady row e (Some i) l =
       let f = subst (Fewer variables values) l (fewer variables values short) in
       let kept : (α : Assignment) → MeetsAll variables codes α → Open Working values α → Open Working (cut values i) α =
@@ -58,7 +58,7 @@ module _ (variables : ℕ) (values : List Bool) (age : ℕ) (codes : List ℕ) (
         fit = (omega arith, λ w. absurd (found_not_refuted (sym w)));
       }
 
-  by_steady : (o : Option ℕ) (all : Bool) → first_false_row variables values codes ≡ o → (length values == variables) ≡ all → Walks_to (walker_by (walking variables values age) (prefix_at o all))
+  by_steady : (o : Option ℕ) (all : Bool) → first_false_row variables values codes ≡ o → (length values == variables) ≡ all → WalksTo (walker_by (walking variables values age) (prefix_at o all))
   by_steady (Some row) all e f = back_steady row e (last_false values) refl
   by_steady None true e f =
       let is = eqb-true (length values) variables f in
@@ -91,7 +91,7 @@ module _ (variables : ℕ) (values : List Bool) (age : ℕ) (codes : List ℕ) (
         fit = (omega (arith, length_push values false), λ w. absurd (working_not_found w));
       }
 
-  walking_steady : Walks_to (walker_move (walking variables values age) codes)
+  walking_steady : WalksTo (walker_move (walking variables values age) codes)
   unfolding walker_move prefix_of
   walking_steady = by_steady (first_false_row variables values codes) (length values == variables) refl refl
 

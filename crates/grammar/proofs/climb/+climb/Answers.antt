@@ -4,7 +4,7 @@ use Rattle.grammar.specs.declared.token.Token.TheVariants.{Open, Name, Not}
 use Rattle.grammar.specs.declared.draft.Draft.{Draft}
 use Rattle.grammar.specs.Words.{words}
 use Rattle.grammar.specs.Drafts.{nodes_in}
-use Rattle.grammar.specs.Climbing.{word_of, rightOf, closer, linked, Hopeless, Climbed}
+use Rattle.grammar.specs.Climbing.{word_of, right_level, closer, linked, Hopeless, Climbed}
 use Rattle.grammar.proofs.Climbs.{Climbing, head_at, at_rest, pair_at, close_at, word_at, no_word, word_weight, room, from_pair, from_not, from_open, from_word, moved}
 use Rattle.grammar.proofs.Hopes.{EndsNowhere, hopeless_after, hopeless_word, hopeless_open, hopeless_name, hopeless_other, hopeless_empty}
 use Rattle.grammar.proofs.climb.+climb.Goals as goal
@@ -102,7 +102,7 @@ push-node-requires t c =
 pub loop-op-preserved : goal.loop-op-preserved
 loop-op-preserved t c =
     let w = word_at c.args.least c.args.tokens.now c.loop-op.end c.in-Some.op (sym (at_rest (λ s. word_of s c.args.least) c.args.tokens.now c.loop-op.end) ∙ sym c.in-Some.ensures) in
-    let y : Climbed (rightOf c.in-Some.op) c.args.tokens.now (c.loop-op.end + 1) c.in_ok-e.e c.in_ok-e.n c.loop-op.out c.climb-in-Some.new.out
+    let y : Climbed (right_level c.in-Some.op) c.args.tokens.now (c.loop-op.end + 1) c.in_ok-e.e c.in_ok-e.n c.loop-op.out c.climb-in-Some.new.out
     = subst (λ l. Climbed l c.args.tokens.now (c.loop-op.end + 1) c.in_ok-e.e c.in_ok-e.n c.loop-op.out c.climb-in-Some.new.out) c.right_of.ensures c.in_ok-e.ensures in
     let added = c.push-node.ensures.nodes ∙ ap (λ j. nodes_in c.climb-in-Some.new.out ++ j ∷ []) c.joined.ensures in
     let step : (before : Draft) → Climbing c.args.least c.args.tokens.now c.args.at c.loop-op.end c.loop-op.node before c.loop-op.out
