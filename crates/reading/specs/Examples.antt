@@ -39,11 +39,11 @@ pub record Examples : Type 0 where
   pub refused_4 : Refused (codes "A&amp with B") (Text (WrongByte 2))
   -- `A&amp;B wiht C`
   pub refused_5 : Refused (codes "A&amp;B wiht C") (Text (WrongByte 8))
-  -- `with_b`
+  -- `withB`
   pub refused_6 : Refused (codes "withB") (OutOfGrammar 0)
   -- `A B?`
   pub refused_7 : Refused (codes "A B?") (OutOfGrammar 2)
-  -- `A with_b`
+  -- `A withB`
   pub refused_8 : Refused (codes "A withB") (Text (WrongByte 6))
   -- `A withs B`
   pub refused_9 : Refused (codes "A withs B") (Text (WrongByte 2))

@@ -28,6 +28,6 @@ layer_of (OutOfGrammar p) = layer.Rule
 layer_of (TooManyNodes n) = layer.Rule
 
 -- the layer as it is printed
-abbrev pub word_of : Layer → List ℕ
-word_of layer.Text = codes "text"
-word_of layer.Rule = codes "rule"
+abbrev pub layer_word : Layer → List ℕ
+layer_word layer.Text = codes "text"
+layer_word layer.Rule = codes "rule"

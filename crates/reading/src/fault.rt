@@ -1,5 +1,5 @@
 ghost use Rattle.std.specs.Prelude.{◌≡◌};
-ghost use Rattle.reading.specs.Numbers.{number_of, carried_of, layer_of, word_of};
+ghost use Rattle.reading.specs.Numbers.{number_of, carried_of, layer_of, layer_word};
 ghost use Rattle.reading.specs.declared.fault.RuleFault.TheVariants.{Text};
 
 /// What is wrong with the text of a line.
@@ -78,7 +78,7 @@ impl RuleFault {
 impl Layer {
     /// The word that it is printed as.
     pub fn word(self) -> &'static str
-        ensures { result.now ≡ word_of self }
+        ensures { result.now ≡ layer_word self }
     {
         match self {
             Layer::Text => "text",
