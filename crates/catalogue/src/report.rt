@@ -1,6 +1,8 @@
-ghost use Rattle.std.specs.Prelude.{◌≡◌, ℕ, vec_len};
+ghost use Rattle.std.specs.Prelude.{◌≡◌, ℕ, vec_len, OnOk};
 ghost use Rattle.catalogue.specs.Counts.{took, missed, has};
 ghost use Rattle.catalogue.specs.Firing.{spoken};
+ghost use Rattle.catalogue.specs.Known.{learned, known, Learned};
+ghost use Rattle.grammar.specs.Readings.{said};
 ghost use Rattle.reading.specs.Reading.{reading};
 
 use crate::firing::firing_truth;
@@ -46,6 +48,8 @@ impl Report {
     pub fn enter(&mut self, heap: Global, line: &[u8]) -> Result<String, AllocError>
         ensures taken { self.new.taken ≡ took (reading line.now) self.old.taken }
         ensures refused { self.new.refused ≡ missed (reading line.now) self.old.refused }
+        ensures names { OnOk result (self.new.names.items ≡ known (reading line.now) self.old.names.items) }
+        ensures learned { OnOk result (Learned (reading line.now) self.old.names.items self.new.names.items) }
     {
         let number = self.taken.saturating_add(self.refused).saturating_add(1);
         match read(line) {
@@ -85,7 +89,9 @@ fn knows(names: &[Name], name: &Name) -> bool
 }
 
 /// Keeps the names of a rule that are new.
-fn learn(names: &mut Vec<Name>, rule: &Line) -> Result<(), AllocError> {
+fn learn(names: &mut Vec<Name>, rule: &Line) -> Result<(), AllocError>
+    ensures { OnOk result (names.new.items ≡ learned names.old.items (said rule.now).names) }
+{
     for named in rule.names() {
         if !knows(names.as_slice(), &named.name) {
             names.push(named.name)?;
