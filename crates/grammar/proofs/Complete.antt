@@ -1,5 +1,6 @@
 -- What the grammar derives, the parser and the automaton follow.
 use Rattle.std.proofs.Common.{◌≡◌, ℕ, suc, true, List, Some, sym, refl, ap, ◌∙◌}
+use Rattle.grammar.specs.Laws.{OneTree}
 use Rattle.grammar.specs.declared.token.Token.{Token}
 use Rattle.grammar.specs.declared.level.Level.{Level}
 use Rattle.grammar.specs.declared.level.Level.TheVariants.{Rule, Disjunction, Conjunction, Part}
@@ -58,7 +59,7 @@ parsed x =
 pub some_same : {t u : Phrase} → Some t ≡ Some u → t ≡ u
 some_same e = cc
 
-pub one_tree : (ts : List Token) (t u : Phrase) → Is Rule ts t → Is Rule ts u → t ≡ u
+pub one_tree : OneTree
 one_tree ts t u x y = some_same (sym (parsed x) ∙ parsed y)
 
 -- the automaton passes from wanting a part to having one, at the same depth

@@ -1,6 +1,7 @@
 -- The automaton and the parser go in step, and what they have taken is derived.
 use Rattle.std.proofs.Common.{◌≡◌, ℕ, zero, suc, Bool, true, false, List, [], ◌∷◌, Some, None, Option, subst, arith}
 use mathlib.Core.Bool.{false≢true}
+use Rattle.grammar.specs.Laws.{ParsedExactly, AcceptedExactly}
 use Rattle.grammar.specs.declared.token.Token.{Token}
 use Rattle.grammar.specs.declared.token.Token.TheVariants.{Open, Close, Name, With, Not, And, Or, Then}
 use Rattle.grammar.specs.declared.level.Level.TheVariants.{Rule, Disjunction, Conjunction, Part}
@@ -12,6 +13,7 @@ use Rattle.grammar.specs.Automaton as auto
 use Rattle.grammar.specs.declared.state.State.TheVariants as stage
 use Rattle.grammar.specs.declared.state.State.{State}
 use Rattle.grammar.specs.Parser.{Stack, base, under_open, under_not, under_and, under_or, under_then, Spot, want, named, second, have, lost, part_done, conjunction_done, disjunction_done, all_done, closing, or_next, then_next, feed, feed_all, whole, finish, parse}
+use Rattle.grammar.proofs.Complete.{parsed, accepts}
 use Rattle.grammar.proofs.Lefts.{taken_all}
 
 -- a conjunction may be complete here
@@ -209,3 +211,9 @@ sound ts t e = taken_all (by_tree ts (auto.accepted ts) (parse ts) t (outcome ts
 
 pub derived : (ts : List Token) → auto.accepted ts ≡ true → (t : Phrase) × Is Rule ts t
 derived ts e = let h = by_test ts (auto.accepted ts) (parse ts) (outcome ts) e in (h.0, taken_all h.1)
+
+pub parsed_exactly : ParsedExactly
+parsed_exactly ts t = (sound ts t, parsed)
+
+pub accepted_exactly : AcceptedExactly
+accepted_exactly ts = (derived ts, λ x. accepts x.1)

@@ -1,3 +1,4 @@
+-- What is proved of the grammar, the recogniser and the parser. Rests on Grammar, Automaton and Parser.
 use Rattle.std.specs.Prelude.{◌≡◌, true, ◌≢◌, ◌↔◌, List, [], ◌∷◌, ◌++◌, Some}
 use Rattle.grammar.specs.declared.token.Token.{Token}
 use Rattle.grammar.specs.declared.level.Level.TheVariants.{Rule}

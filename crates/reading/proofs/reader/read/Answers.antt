@@ -46,5 +46,5 @@ returns c =
     let l = fits c.args.line.now (sym c.in_ok-measure.ensures) in
     let few : words (held c.in_ok-tokens.tokens) ≤ 32 = omega (arith, ap words c.items.ensures, c.count_words-words.ensures, c.if-words-gt-MAX_NODES.false) in
     let o = said_so c.args.line.now l (held c.in_ok-tokens.tokens) c.in_ok-tokens.ensures (said c.build.result) few
-    (subst (λ (ts : List Token). IsSomeAnd (parse ts) (λ t. said c.build.result ≡ reading_of t)) c.items-2.ensures c.build.ensures) in
+    (subst (λ (ts : List Token). IsSomeAnd (parse ts) (λ t. said c.build.result ≡ reading_of t)) c.items-2.ensures c.build.ensures.says) in
     record { exact = o.0; meaning = o.1; well_read = well_read c.args.line.now c.build.result o; only = o.2 }
