@@ -1,5 +1,6 @@
 ghost use Rattle.std.specs.Prelude.{◌≡◌, ◌&&◌, IfOk, if◌then◌else◌, Some, None, vec_items, OnOk, nat_le};
 ghost use Rattle.std.specs.Option.{option_map};
+ghost use Rattle.search_demo.specs.Decimals.{ReadBack};
 ghost use Rattle.search_demo.specs.Reading.{most, is_digit, grown, ended, numbers_of};
 
 use std::alloc::{AllocError, Global};
@@ -28,9 +29,11 @@ fn add(numbers: &mut Vec<u16>, number: Option<u16>) -> Result<(), AllocError>
     Ok(())
 }
 
-// The numbers of a line, or nothing where it is no line of numbers.
+// The numbers of a line, or nothing where it is no line of numbers. Numbers written in base ten are read back.
+#[tactic(auto, using(crate::proofs::ReadBack::read_back))]
 pub fn read_numbers(heap: Global, line: &[u8]) -> Result<Option<Vec<u16>>, AllocError>
-    ensures { IfOk result (λ o. option_map vec_items o ≡ numbers_of line.now) }
+    ensures value { IfOk result (λ o. option_map vec_items o ≡ numbers_of line.now) }
+    ensures back { ReadBack }
 {
     let mut numbers = Vec::new(heap);
     let mut number = None;

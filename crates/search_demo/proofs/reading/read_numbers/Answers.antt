@@ -4,8 +4,8 @@ use Rattle.search_demo.proofs.Lines.{read_space, read_digit, read_fault, read_al
 use Rattle.search_demo.proofs.reading.read_numbers.Goals as goal
 use Rattle.search_demo.proofs.reading.read_numbers.Goals.{then-byte-eq32+in_ok-add, else-byte-eq32+else-is_none}
 
-pub returns-then-is_none : goal.returns-then-is_none
-returns-then-is_none c =
+pub returns-then-is_none-clause-value : goal.returns-then-is_none-clause-value
+returns-then-is_none-clause-value c =
     read_fault c.args.line.now c.loop-byte.byte-index c.loop-byte-test.true (vec_items c.loop-byte.numbers) c.loop-byte.number c.if-byte-eq32.false c.grow-number.result c.grow-number.ensures c.if-is_none.ensures
     ∙ c.loop-byte.invariant
 
@@ -22,8 +22,8 @@ loop-byte-preserved c =
       | else-byte-eq32+else-is_none w ↦ goes numbers w.grow-number.result (ap vec_items w.numbers-is) w.number-is (read_digit line i c.loop-byte-test.true numbers number w.if-byte-eq32.false w.grow-number.result w.grow-number.ensures w.if-is_none.ensures)
     ]
 
-pub returns : goal.returns
-returns c =
+pub returns-clause-value : goal.returns-clause-value
+returns-clause-value c =
     ap Some c.in_ok-add-2.ensures
     ∙ sym (read_all c.args.line.now c.loop-byte.byte-index (vec_items c.loop-byte.numbers) c.loop-byte.number c.loop-byte-test.false)
     ∙ c.loop-byte.invariant
