@@ -1,7 +1,6 @@
 -- Words that rise in the line stand in the tree in their order.
-use Rattle.std.proofs.Common.{◌≡◌, ℕ, suc, ◌<◌, ◌≤◌, Bool, true, false, ◌&&◌, ltb, leb, List, [], length, refl, ap, ◌∙◌, arith}
-use mathlib.Core.Bool.{false≢true}
-use Rattle.std.proofs.lemmas.Bool.{le-leb, lt-ltb, ltb-true}
+use Rattle.std.proofs.Common.{◌≡◌, ℕ, suc, ◌<◌, ◌≤◌, true, ◌&&◌, ltb, leb, List, [], length, arith}
+use Rattle.std.proofs.lemmas.Bool.{and_from, and_parts, le-leb, lt-ltb, ltb-true}
 use Rattle.formula.specs.declared.node.Pair.{Pair}
 use Rattle.formula.specs.Tree.{Tree, leaf, not, and, or, then, spans}
 use Rattle.formula.specs.Table.{pair_place}
@@ -14,40 +13,29 @@ use Rattle.grammar.specs.Reads.{Reads, pair_read, not_read, parens_read, part_re
 use Rattle.grammar.specs.Words.{Rising}
 use Rattle.grammar.proofs.Numbering.{Holds}
 
-pub and_true : {a b : Bool} → a ≡ true → b ≡ true → (a && b) ≡ true
-and_true {a} {b} p q = ap (λ x. x && b) p ∙ q
-
-pub and_left : (a b : Bool) → (a && b) ≡ true → a ≡ true
-and_left true b e = refl
-and_left false b e = absurd (false≢true e)
-
-pub and_right : (a b : Bool) → (a && b) ≡ true → b ≡ true
-and_right true b e = e
-and_right false b e = absurd (false≢true e)
-
 inside : (from p to : ℕ) → from ≤ p → p < to → (leb from p && ltb p to) ≡ true
-inside from p to h l = and_true (le-leb from p h) (lt-ltb p to l)
+inside from p to h l = and_from _ _ (le-leb from p h) (lt-ltb p to l)
 
 later_sides : (from to far p : ℕ) (t u : Tree (Pair ℕ)) → to ≤ far
     → ((leb from p && ltb p to) && (spans pair_place from p t && spans pair_place (suc p) to u)) ≡ true
     → (spans pair_place (suc p) to u ≡ true → spans pair_place (suc p) far u ≡ true)
     → ((leb from p && ltb p far) && (spans pair_place from p t && spans pair_place (suc p) far u)) ≡ true
 later_sides from to far p t u h e f =
-    let i = and_left (leb from p && ltb p to) _ e in
-    let j = and_right (leb from p && ltb p to) _ e in
-    let l = ltb-true p to (and_right (leb from p) (ltb p to) i) in
-    and_true (and_true (and_left (leb from p) (ltb p to) i) (lt-ltb p far (omega arith)))
-    (and_true (and_left (spans pair_place from p t) _ j) (f (and_right (spans pair_place from p t) _ j)))
+    let i = (and_parts (leb from p && ltb p to) _ e).0 in
+    let j = (and_parts (leb from p && ltb p to) _ e).1 in
+    let l = ltb-true p to (and_parts (leb from p) (ltb p to) i).1 in
+    and_from _ _ (and_from _ _ (and_parts (leb from p) (ltb p to) i).0 (lt-ltb p far (omega arith)))
+    (and_from _ _ (and_parts (spans pair_place from p t) _ j).0 (f (and_parts (spans pair_place from p t) _ j).1))
 
 -- the words of a part may end earlier
 later : (from to far : ℕ) (t : Tree (Pair ℕ)) → to ≤ far → spans pair_place from to t ≡ true → spans pair_place from far t ≡ true
 later from to far (leaf p) h e =
-    let l = ltb-true (pair_place p) to (and_right (leb from (pair_place p)) _ e) in
-    and_true (and_left _ (ltb (pair_place p) to) e) (lt-ltb (pair_place p) far (omega arith))
+    let l = ltb-true (pair_place p) to (and_parts (leb from (pair_place p)) _ e).1 in
+    and_from _ _ (and_parts _ (ltb (pair_place p) to) e).0 (lt-ltb (pair_place p) far (omega arith))
 later from to far (not p t) h e =
-    let l = ltb-true p to (and_right (leb from p) (ltb p to) (and_left (leb from p && ltb p to) _ e)) in
-    and_true (and_true (and_left (leb from p) (ltb p to) (and_left (leb from p && ltb p to) _ e)) (lt-ltb p far (omega arith)))
-    (later (suc p) to far t h (and_right (leb from p && ltb p to) _ e))
+    let l = ltb-true p to (and_parts (leb from p) (ltb p to) (and_parts (leb from p && ltb p to) _ e).0).1 in
+    and_from _ _ (and_from _ _ (and_parts (leb from p) (ltb p to) (and_parts (leb from p && ltb p to) _ e).0).0 (lt-ltb p far (omega arith)))
+    (later (suc p) to far t h (and_parts (leb from p && ltb p to) _ e).1)
 later from to far (and p t u) h e = later_sides from to far p t u h e (later (suc p) to far u h)
 later from to far (or p t u) h e = later_sides from to far p t u h e (later (suc p) to far u h)
 later from to far (then p t u) h e = later_sides from to far p t u h e (later (suc p) to far u h)
@@ -70,7 +58,7 @@ between {from} {to} {p} {t = t} x h l y =
       end = y.end;
       onward = omega arith;
       most = y.most;
-      in_order = and_true (inside from p y.end (omega arith) (omega arith)) (and_true (later from x.end p t h x.in_order) y.in_order);
+      in_order = and_from _ _ (inside from p y.end (omega arith) (omega arith)) (and_from _ _ (later from x.end p t h x.in_order) y.in_order);
       rest = y.rest;
     }
 
@@ -80,7 +68,7 @@ rising_ends ns (pair_read {p = p}) from to h =
 rising_ends ns (not_read {p = p} x) from to h =
     let e = rising_ends ns x (suc p) to h.2 in
     let o = e.onward in
-    record { end = e.end; onward = omega (arith, h.0); most = e.most; in_order = and_true (inside from p e.end h.0 (omega arith)) e.in_order; rest = e.rest }
+    record { end = e.end; onward = omega (arith, h.0); most = e.most; in_order = and_from _ _ (inside from p e.end h.0 (omega arith)) e.in_order; rest = e.rest }
 rising_ends ns (parens_read x) from to h =
     let e = rising_ends ns x from to h in
     record { end = e.end; onward = e.onward; most = e.most; in_order = e.in_order; rest = e.rest }
@@ -104,8 +92,8 @@ all_in_order {t = t} ns x to h = let e = rising_ends ns x 0 to h in later 0 e.en
 
 -- names that stand in the list have numbers below its length
 pub holds_within : (ns : List Named) (t : Phrase) → Holds ns t → within (length ns) (numbered ns t) ≡ true
-holds_within ns (leaf p) h = and_true (lt-ltb _ _ h.0) (lt-ltb _ _ h.1)
+holds_within ns (leaf p) h = and_from _ _ (lt-ltb _ _ h.0) (lt-ltb _ _ h.1)
 holds_within ns (not p t) h = holds_within ns t h
-holds_within ns (and p t u) h = and_true (holds_within ns t h.0) (holds_within ns u h.1)
-holds_within ns (or p t u) h = and_true (holds_within ns t h.0) (holds_within ns u h.1)
-holds_within ns (then p t u) h = and_true (holds_within ns t h.0) (holds_within ns u h.1)
+holds_within ns (and p t u) h = and_from _ _ (holds_within ns t h.0) (holds_within ns u h.1)
+holds_within ns (or p t u) h = and_from _ _ (holds_within ns t h.0) (holds_within ns u h.1)
+holds_within ns (then p t u) h = and_from _ _ (holds_within ns t h.0) (holds_within ns u h.1)

@@ -1,4 +1,4 @@
--- What holds of chains (statements). Rests on Chains and Pairs.
+-- What holds of chains (statements). Rests on Chains, Joined and Lots.
 use Rattle.std.specs.Prelude.{◌≡◌, ℕ, Bool, true, List, ◌∷◌}
 use Rattle.graph.specs.Chains.{Chain, Path}
 use Rattle.graph.specs.Joined.{joined}

@@ -1,4 +1,4 @@
--- Rounds of marks (executable). Rests on Marks and Chains.
+-- Rounds of marks (executable). Rests on Marks, Joined and Lots.
 use Rattle.std.specs.Prelude.{ℕ, zero, suc, ◌*◌, Bool, true, false, not, ◌&&◌, ◌||◌, List}
 use Rattle.formula.specs.Tree.{Tree}
 use Rattle.formula.specs.declared.node.Pair.{Pair}

@@ -5,7 +5,8 @@ use Rattle.std.proofs.lemmas.Bool.{eqb-true, cond-true, cond-false}
 use Rattle.reading.specs.Bytes.{plain}
 use Rattle.reading.specs.Decoding.{starts, first_of, Runs, stops, itself, ampersand, reference}
 use Rattle.reading.specs.Scan.{behind, extra, decoded}
-use Rattle.reading.proofs.Tests.{both_cases, either_none, neither, unlike}
+use Rattle.grammar.proofs.Same.{both_cases}
+use Rattle.reading.proofs.Tests.{either_none, neither, unlike}
 
 pub starts_is : (xs bs : List ℕ) → starts xs bs ≡ true → (bs ≡ xs ++ drop (length xs) bs) × (length xs ≤ length bs)
 starts_is [] bs e = (refl, omega arith)

@@ -7,7 +7,8 @@ use Rattle.grammar.specs.declared.token.Token.{Token}
 use Rattle.grammar.specs.Automaton.{step, run, ended, accepted}
 use Rattle.grammar.proofs.Complete.{accepts}
 use Rattle.grammar.proofs.Sound.{derived}
-use Rattle.grammar.proofs.Prefixes.{run_append, run_lost, completion}
+use Rattle.grammar.proofs.Hopes.{never}
+use Rattle.grammar.proofs.Prefixes.{run_append, completion}
 use Rattle.reading.specs.Faults.{Cause, not_apart, no_token, long_name, out_of_grammar, unfinished, Viable, Refused, NoRule, Faulty}
 use Rattle.reading.specs.declared.fault.RuleFault.{RuleFault}
 use Rattle.reading.proofs.Outcomes.{Explained, want_lives, name_lives, second_lives, part_lives}
@@ -18,9 +19,6 @@ state ts = run (WantPart 0) ts
 
 behind : (ts more : List Token) → accepted (ts ++ more) ≡ ended (run (state ts) more)
 behind ts more = ap ended (run_append (WantPart 0) ts more)
-
-never : (ts : List Token) → ended (run Lost ts) ≡ true → ⊥
-never ts e = false≢true (sym (ap ended (run_lost ts)) ∙ e)
 
 pub ends_lives : (ts : List Token) → ended (state ts) ≡ true → state ts ≢ Lost
 ends_lives ts h e = false≢true (sym (ap ended e) ∙ h)

@@ -21,7 +21,8 @@ use Rattle.reading.specs.Lines.{IsStored, WellRead}
 use Rattle.reading.specs.Spells.{Spells, Spelt, here, space, token, TokenAt, opens, closes, word, name}
 use Rattle.reading.specs.declared.fault.RuleFault.{RuleFault}
 use Rattle.reading.proofs.Replies.{Owed}
-use Rattle.reading.proofs.Tests.{both_cases, either_cases}
+use Rattle.grammar.proofs.Same.{both_cases}
+use Rattle.reading.proofs.Tests.{either_cases}
 
 -- bytes of names are not 0
 upper_pos : (b : ℕ) → upper b ≡ true → 0 < b

@@ -2,6 +2,7 @@
 use Rattle.std.proofs.Common.{◌≡◌, ℕ, Bool, true, false, cond, eqb, leb, ◌≢◌, ◌⊎◌, sym, refl, ap, ◌∙◌, subst, inl, inr, ⊎_elim, arith}
 use mathlib.Core.Bool.{false≢true}
 use Rattle.std.proofs.lemmas.Bool.{eqb-true, leb-true, lt-leb, cond-true, cond-false}
+use Rattle.grammar.proofs.Same.{both_cases}
 use Rattle.reading.specs.Bytes.{both, either, lower, upper, edge}
 use Rattle.reading.specs.Scan.{Kind, gap, opening, closing, small, big, strange, kind}
 
@@ -19,10 +20,6 @@ either_none a b p q = ap (λ x. either x b) p ∙ q
 pub neither : (a b : Bool) → either a b ≡ false → (a ≡ false) × (b ≡ false)
 neither true b e = absurd (false≢true (sym e))
 neither false b e = (refl, e)
-
-pub both_cases : (a b : Bool) → both a b ≡ true → (a ≡ true) × (b ≡ true)
-both_cases true b e = (refl, e)
-both_cases false b e = absurd (false≢true e)
 
 -- a test that would make another come out wrong is false
 pub unlike : (f : ℕ → Bool) (b c : ℕ) → f b ≡ true → f c ≡ false → eqb b c ≡ false

@@ -1,4 +1,4 @@
--- Names: which bytes spell which, by the rule of the HTML standard for `&amp;`. Rests on Bytes.
+-- Names: which bytes spell which, where each of a list of spellings of the ampersand is one ampersand. Rests on Bytes.
 use Rattle.std.specs.Prelude.{◌≡◌, ℕ, Bool, true, false, cond, List, [], ◌∷◌, length, drop, Some, None, Option, ◌==◌}
 use Rattle.reading.specs.Bytes.{either, plain}
 
