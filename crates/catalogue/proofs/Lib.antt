@@ -1,1 +1,3 @@
 pub mod Learning
+pub mod Writing
+pub mod Replying

@@ -1,7 +1,9 @@
-ghost use Rattle.std.specs.Prelude.{◌≡◌, ℕ, vec_len, OnOk};
+ghost use Rattle.std.specs.Prelude.{◌≡◌, ℕ, vec_len, OnOk, IfOk, string_bytes};
 ghost use Rattle.catalogue.specs.Counts.{took, missed, has};
 ghost use Rattle.catalogue.specs.Firing.{spoken};
 ghost use Rattle.catalogue.specs.Known.{learned, known, Learned};
+ghost use Rattle.catalogue.specs.Replies.{taken_reply, refused_reply, line_number, reply, counts_reply};
+ghost use Rattle.catalogue.specs.Texts.{place_of};
 ghost use Rattle.grammar.specs.Readings.{said};
 ghost use Rattle.reading.specs.Reading.{reading};
 
@@ -22,7 +24,9 @@ pub struct Report {
 }
 
 /// The place of a fault in its line, where it has one.
-fn place(fault: RuleFault) -> Option<usize> {
+fn place(fault: RuleFault) -> Option<usize>
+    ensures { result ≡ place_of fault }
+{
     match fault {
         RuleFault::Text(TextFault::WrongByte(place) | TextFault::NameTooLong(place)) => Some(place),
         RuleFault::OutOfGrammar(place) => Some(place),
@@ -50,6 +54,7 @@ impl Report {
         ensures refused { self.new.refused ≡ missed (reading line.now) self.old.refused }
         ensures names { OnOk result (self.new.names.items ≡ known (reading line.now) self.old.names.items) }
         ensures learned { OnOk result (Learned (reading line.now) self.old.names.items self.new.names.items) }
+        ensures reply { IfOk result (λ s. string_bytes s ≡ reply (line_number self.old.taken self.old.refused) line.now (reading line.now)) }
     {
         let number = self.taken.saturating_add(self.refused).saturating_add(1);
         match read(line) {
@@ -68,7 +73,9 @@ impl Report {
     }
 
     /// The counts at the end.
-    pub(crate) fn summary(&self, heap: Global) -> Result<String, AllocError> {
+    pub(crate) fn summary(&self, heap: Global) -> Result<String, AllocError>
+        ensures { IfOk result (λ s. string_bytes s ≡ counts_reply self.now.taken self.now.refused (vec_len self.now.names)) }
+    {
         let taken = self.taken;
         let refused = self.refused;
         let names = self.names.len();
@@ -108,7 +115,9 @@ fn word(truth: bool) -> &'static str
 }
 
 /// A rule: as read, in normal form, and its truth when every lot fires alone and when all fire together.
-fn taken_text(heap: Global, rule: &Line) -> Result<String, AllocError> {
+fn taken_text(heap: Global, rule: &Line) -> Result<String, AllocError>
+    ensures { IfOk result (λ s. string_bytes s ≡ taken_reply (said rule.now)) }
+{
     let names = names_text(heap, rule)?;
     let text = rule_text(heap, rule, &names)?;
     let normal = normal_text(heap, &rule.formula().normal(), &names)?;
@@ -118,7 +127,9 @@ fn taken_text(heap: Global, rule: &Line) -> Result<String, AllocError> {
 }
 
 /// A refusal: its number, the number it carries, its layer, and the line with a mark under the place.
-fn refusal_text(heap: Global, line: &[u8], fault: RuleFault) -> Result<String, AllocError> {
+fn refusal_text(heap: Global, line: &[u8], fault: RuleFault) -> Result<String, AllocError>
+    ensures { IfOk result (λ s. string_bytes s ≡ refused_reply line.now fault) }
+{
     let number = fault.number();
     let carried = fault.carried();
     let layer = fault.layer().word();

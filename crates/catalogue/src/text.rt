@@ -1,3 +1,9 @@
+ghost use Rattle.std.specs.Prelude.{◌≡◌, ℕ, List, IfOk, map, string_bytes};
+ghost use Rattle.catalogue.specs.Texts.{shown_bytes, shown_name, text_at, between, last_text, shown_pair, shown_literal, shown_node, shown_tree};
+ghost use Rattle.formula.specs.Formulas.{formula_tree};
+ghost use Rattle.formula.specs.NormalForms.{normal_tree};
+ghost use Rattle.grammar.specs.Readings.{said};
+
 use formula::literal::Literal;
 use formula::node::{Node, Pair};
 use formula::normal::NormalForm;
@@ -6,7 +12,9 @@ use grammar::name::Named;
 use std::alloc::{AllocError, Global};
 
 /// Bytes as text, one character for each: a byte that cannot be shown is a dot, so that places stay in line.
-pub(crate) fn readable(heap: Global, bytes: &[u8]) -> Result<String, AllocError> {
+pub(crate) fn readable(heap: Global, bytes: &[u8]) -> Result<String, AllocError>
+    ensures { IfOk result (λ s. string_bytes s ≡ shown_bytes bytes.now) }
+{
     let mut shown = String::new(heap);
     for b in bytes {
         let c = if matches!(*b, 32..=126) {
@@ -20,7 +28,9 @@ pub(crate) fn readable(heap: Global, bytes: &[u8]) -> Result<String, AllocError>
 }
 
 /// A name, decoded; the zeros behind it are left out.
-fn name_text(heap: Global, named: &Named) -> Result<String, AllocError> {
+fn name_text(heap: Global, named: &Named) -> Result<String, AllocError>
+    ensures { IfOk result (λ s. string_bytes s ≡ shown_name named.now) }
+{
     let mut shown = String::new(heap);
     for b in named.name.bytes() {
         if *b != 0 {
@@ -31,7 +41,9 @@ fn name_text(heap: Global, named: &Named) -> Result<String, AllocError> {
 }
 
 /// The names of a line, in their order.
-pub(crate) fn names_text(heap: Global, line: &Line) -> Result<Vec<String>, AllocError> {
+pub(crate) fn names_text(heap: Global, line: &Line) -> Result<Vec<String>, AllocError>
+    ensures { IfOk result (λ v. map string_bytes v.items ≡ map shown_name (said line.now).names) }
+{
     let mut names = Vec::new(heap);
     for named in line.names() {
         names.push(name_text(heap, named)?)?;
@@ -40,7 +52,9 @@ pub(crate) fn names_text(heap: Global, line: &Line) -> Result<Vec<String>, Alloc
 }
 
 /// A text that was written before.
-fn written(texts: &Vec<String>, at: usize) -> &str {
+fn written(texts: &Vec<String>, at: usize) -> &str
+    ensures { result.now ≡ text_at (map string_bytes texts.now.items) at }
+{
     match texts.get(at) {
         Some(text) => text.as_str(),
         None => "",
@@ -48,14 +62,18 @@ fn written(texts: &Vec<String>, at: usize) -> &str {
 }
 
 /// A pair, by its names.
-fn pair_text(heap: Global, names: &Vec<String>, pair: Pair<usize>) -> Result<String, AllocError> {
+fn pair_text(heap: Global, names: &Vec<String>, pair: Pair<usize>) -> Result<String, AllocError>
+    ensures { IfOk result (λ s. string_bytes s ≡ shown_pair (map string_bytes names.now.items) pair) }
+{
     let first = written(names, pair.first);
     let second = written(names, pair.second);
     format!(in heap; "({first} with {second})")
 }
 
 /// A literal, by its names.
-fn literal_text(heap: Global, names: &Vec<String>, literal: Literal) -> Result<String, AllocError> {
+fn literal_text(heap: Global, names: &Vec<String>, literal: Literal) -> Result<String, AllocError>
+    ensures { IfOk result (λ s. string_bytes s ≡ shown_literal (map string_bytes names.now.items) literal) }
+{
     let pair = pair_text(heap, names, literal.pair)?;
     let sign = if literal.positive { "" } else { "not " };
     format!(in heap; "{sign}{pair}")
@@ -68,7 +86,9 @@ fn joined(
     left: usize,
     word: &str,
     right: usize,
-) -> Result<String, AllocError> {
+) -> Result<String, AllocError>
+    ensures { IfOk result (λ s. string_bytes s ≡ between word.now (text_at (map string_bytes texts.now.items) left) (text_at (map string_bytes texts.now.items) right)) }
+{
     let first = written(texts, left);
     let second = written(texts, right);
     format!(in heap; "({first} {word} {second})")
@@ -80,7 +100,9 @@ fn node_text<L: Copy>(
     node: Node<L>,
     leaf: String,
     texts: &Vec<String>,
-) -> Result<String, AllocError> {
+) -> Result<String, AllocError>
+    ensures { IfOk result (λ s. string_bytes s ≡ shown_node (λ _. string_bytes leaf) (map string_bytes texts.now.items) node) }
+{
     match node {
         Node::Leaf(_) => Ok(leaf),
         Node::Not { part, .. } => {
@@ -94,7 +116,9 @@ fn node_text<L: Copy>(
 }
 
 /// The text of the last node, which is the whole.
-fn whole(heap: Global, mut texts: Vec<String>) -> String {
+fn whole(heap: Global, mut texts: Vec<String>) -> String
+    ensures { string_bytes result ≡ last_text (map string_bytes texts.items) }
+{
     match texts.pop() {
         Some(text) => text,
         None => String::new(heap),
@@ -106,7 +130,9 @@ pub(crate) fn rule_text(
     heap: Global,
     line: &Line,
     names: &Vec<String>,
-) -> Result<String, AllocError> {
+) -> Result<String, AllocError>
+    ensures { IfOk result (λ s. string_bytes s ≡ shown_tree (shown_pair (map string_bytes names.now.items)) (formula_tree line.now.formula)) }
+{
     let mut texts = Vec::new(heap);
     for node in line.formula().nodes() {
         let leaf = match *node {
@@ -124,7 +150,9 @@ pub(crate) fn normal_text(
     heap: Global,
     normal: &NormalForm,
     names: &Vec<String>,
-) -> Result<String, AllocError> {
+) -> Result<String, AllocError>
+    ensures { IfOk result (λ s. string_bytes s ≡ shown_tree (shown_literal (map string_bytes names.now.items)) (normal_tree normal.now)) }
+{
     let mut texts = Vec::new(heap);
     for node in normal.nodes() {
         let leaf = match *node {
