@@ -1,4 +1,4 @@
--- What is printed of bytes, names, pairs and nodes. Rests on Names of crate grammar.
+-- What is printed of bytes, names, pairs and nodes. Rests on Tree of crate formula.
 use Rattle.std.specs.Prelude.{ℕ, cond, ◌&&◌, List, [], ◌++◌, codes, map, Some, None, Option, nat_le, ◌==◌, slice_index_or, length, ◌-◌}
 use Rattle.std.specs.Char.{encode_utf8}
 use Rattle.std.specs.List.{flat_map}
