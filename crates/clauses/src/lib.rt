@@ -2,48 +2,52 @@
 // Three codes in a row of a flat slice are a clause, and a clause cut short at the end is not read.
 #![tactic(auto)]
 
-ghost use Rattle.std.specs.Prelude.{◌≡◌, ◌+◌, ◌*◌, ◌≤◌, length};
-ghost use Rattle.clauses.specs.Falsity.{false_code, false_clause, first_false_row};
+ghost use Rattle.std.specs.Prelude.{◌≡◌, ◌≤◌, length};
+ghost use Rattle.std.specs.List.{list_all};
+ghost use Rattle.clauses.specs.Falsity.{false_code, first_false_row};
 ghost use Rattle.clauses.specs.Statements.{Told, ToldOfAll};
 
 // How many codes a clause has.
 pub const WIDTH: usize = 3;
 
-// Whether the code is false: it is of no variable from 1 to `variables`, or of one whose value says otherwise.
-// Variable v has its value at index v - 1; the variables after those have none, and their codes are not false.
-fn code_is_false(code: u16, variables: usize, values: &[bool]) -> bool
-    ensures { result ≡ false_code variables values.now code }
-{
-    let variable = (code / 2) as usize;
-    if variable == 0 || variable > variables {
-        return true;
-    }
-    if variable > values.len() {
-        return false;
-    }
-    values[variable - 1] != (code % 2 == 0)
+// Values of the first of the variables 1 to `variables`: variable v has its value at index v - 1, and those after have none.
+#[derive(Clone, Copy)]
+pub struct PartialAssignment<'a> {
+    pub variables: usize,
+    pub values: &'a [bool],
 }
 
-// Whether every code of the clause in this row is false.
-fn clause_is_false(codes: &[u16], row: usize, variables: usize, values: &[bool]) -> bool
-    requires { 3 * row + 3 ≤ length codes.now }
-    ensures { result ≡ false_clause variables values.now codes.now row }
-{
-    code_is_false(codes[WIDTH * row], variables, values)
-        && code_is_false(codes[WIDTH * row + 1], variables, values)
-        && code_is_false(codes[WIDTH * row + 2], variables, values)
-}
-
-// The row, from 0, of the first clause that is false in every code under these values of the first variables.
-pub fn first_false(codes: &[u16], variables: usize, values: &[bool]) -> Option<usize>
-    ensures value { result ≡ first_false_row variables values.now codes.now }
-    ensures told { Told variables values.now codes.now result }
-    ensures told_of_all { variables ≤ length values.now → ToldOfAll variables values.now codes.now result }
-{
-    for row in 0..codes.len() / WIDTH {
-        if clause_is_false(codes, row, variables, values) {
-            return Some(row);
+impl PartialAssignment<'_> {
+    // Whether the code is false: it is of no variable from 1 to `variables`, or of one whose value says otherwise.
+    #[tactic(auto, using(std::proofs::lemmas::Bool::Decides::nat_tests), unfolding(crate::specs::Falsity::false_code))]
+    fn falsifies(self, code: u16) -> bool
+        ensures { result ≡ false_code self.entry.variables self.entry.values.now code }
+    {
+        let variable = usize::from(code / 2);
+        if variable == 0 || variable > self.variables {
+            return true;
+        }
+        match self.values.get(variable - 1) {
+            Some(value) => *value != (code % 2 == 0),
+            None => false,
         }
     }
-    None
+
+    // Whether every one of the codes is false.
+    fn falsifies_all(self, codes: &[u16]) -> bool
+        ensures { result ≡ list_all (false_code self.entry.variables self.entry.values.now) codes.now }
+    {
+        codes.iter().all(|code| self.falsifies(*code))
+    }
+
+    // The row, from 0, of the first clause that is false in every code.
+    pub fn first_false(self, codes: &[u16]) -> Option<usize>
+        ensures value { result ≡ first_false_row self.entry.variables self.entry.values.now codes.now }
+        ensures told { Told self.entry.variables self.entry.values.now codes.now result }
+        ensures told_of_all { self.entry.variables ≤ length self.entry.values.now → ToldOfAll self.entry.variables self.entry.values.now codes.now result }
+    {
+        codes
+            .chunks_exact(WIDTH)
+            .position(|clause| self.falsifies_all(clause))
+    }
 }

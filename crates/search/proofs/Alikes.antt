@@ -43,7 +43,7 @@ pub counter_settled : (top : ℕ) (codes : List ℕ) (budget : ℕ) → budget �
 counter_settled top codes budget l =
     let end = iterated counter_step codes budget (counter_start top) in
     let whole : length (filled top []) ≡ top = length_filled top [] (omega arith) in
-    let run = run_reached counter_reserve Whole counter_move codes top (2 ^ top) (λ s. counter_steady s codes) (λ s f. counter_lively s (omega arith)) (counter_start top) whole (counter_begun top) (λ α. ahead_filled top [] 1 α (ahead_none 1 α)) budget l in
+    let run = run_reached counter_reserve Whole counter_move codes top (2 ^ top) (λ s. counter_steady s codes) (λ s f. counter_lively s (omega arith)) (counter_start top) whole (counter_begun top _ refl) (λ α. ahead_filled top [] 1 α (ahead_none 1 α)) budget l in
     record {
       found_first = λ f. (run.2.found f, λ α m. open_found end.status end.values α f (run.1.all_open α m));
       found_whole = λ _. run.1.fits ∙ run.2.over;
@@ -54,7 +54,7 @@ counter_settled top codes budget l =
 pub walker_settled : (top : ℕ) (codes : List ℕ) (budget : ℕ) → budget ≤ age_limit → Settled top codes (nodes top) budget (iterated walker_step codes budget (walker_start top))
 walker_settled top codes budget l =
     let end = iterated walker_step codes budget (walker_start top) in
-    let run = run_reached walker_reserve Partial walker_move codes top (nodes top) (λ s f. walker_steady s codes f.0) (λ s f. walker_lively s) (walker_start top) (omega arith, λ f. absurd (working_not_found f)) (walker_begun top) (λ α. ahead_none 1 α) budget l in
+    let run = run_reached walker_reserve Partial walker_move codes top (nodes top) (λ s f. walker_steady s codes f.0) (λ s f. walker_lively s) (walker_start top) (omega arith, λ f. absurd (working_not_found f)) (walker_begun top _ refl) (λ α. ahead_none 1 α) budget l in
     record {
       found_first = λ f. (run.2.found f, λ α m. open_found end.status end.values α f (run.1.all_open α m));
       found_whole = λ f. run.1.fits.1 f ∙ run.2.over;

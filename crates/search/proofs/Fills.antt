@@ -1,15 +1,13 @@
 -- Values filled up with false. Rests on specs/States.
-use Rattle.std.proofs.Common.{◌≡◌, ℕ, zero, suc, ◌+◌, ◌<◌, ◌≤◌, Bool, true, false, List, [], ◌∷◌, ◌++◌, length, take, drop, set, get_or, refl, sym, ap, ◌∙◌, arith, add-one}
-use Rattle.std.proofs.lemmas.List.{append_assoc, drop_more, set_at, take_at, take_more_set, take-take}
-use Rattle.search.specs.States.{cut, filled}
+use Rattle.std.proofs.Common.{◌≡◌, ℕ, zero, suc, ◌+◌, ◌≤◌, Bool, false, List, [], ◌∷◌, ◌++◌, length, refl, ap, arith, add-one}
+use Rattle.search.specs.States.{filled}
 
-filled_itself : (bs : List Bool) → filled (length bs) bs ≡ bs
+-- nothing to fill
+pub filled_same : (n : ℕ) (bs : List Bool) → n ≤ length bs → filled n bs ≡ bs
 unfolding filled
-filled_itself [] = refl
-filled_itself (b ∷ bs) = ap (λ cs. b ∷ cs) (filled_itself bs)
-
-pub filled_same : (n : ℕ) (bs : List Bool) → length bs ≡ n → filled n bs ≡ bs
-filled_same n bs e = rw (sym e) (filled_itself bs)
+filled_same zero bs l = refl
+filled_same (suc n) [] l = absurd (omega arith)
+filled_same (suc n) (b ∷ bs) l = ap (λ cs. b ∷ cs) (filled_same n bs (omega arith))
 
 push_false : (n : ℕ) (bs : List Bool) → length bs ≤ n → filled n bs ++ false ∷ [] ≡ filled (suc n) bs
 unfolding filled
@@ -27,19 +25,3 @@ length_filled zero [] l = refl
 length_filled zero (b ∷ bs) l = absurd (omega arith)
 length_filled (suc n) [] l = ap suc (length_filled n [] (omega arith))
 length_filled (suc n) (b ∷ bs) l = ap suc (length_filled n bs (omega arith))
-
--- one more value turned to false
-pub fill_more : (all front : List Bool) (i : ℕ) → length front ≤ i → i < length all → set (filled i front ++ drop i all) i false ≡ filled (i + 1) front ++ drop (i + 1) all
-fill_more all front i l k =
-    ap (λ r. set (filled i front ++ r) i false) (drop_more all i false k)
-    ∙ set_at (filled i front) (get_or all i false) (drop (i + 1) all) false i (length_filled i front l)
-    ∙ sym (append_assoc (filled i front) (false ∷ []) (drop (i + 1) all))
-    ∙ ap (λ f. f ++ drop (i + 1) all) (filled_push i front l)
-
-pub take_filled : (n : ℕ) (front rest : List Bool) → length front ≤ n → take n (filled n front ++ rest) ≡ filled n front
-take_filled n front rest l = take_at (filled n front) rest n (length_filled n front l)
-
--- the value at an index turned to true, and those from it on left out
-pub cut_set : (values : List Bool) (len i : ℕ) → i < len → len ≤ length values → take (i + 1) (set values i true) ≡ cut (take len values) i
-cut_set values len i l k =
-    take_more_set values i true (omega arith) ∙ ap (λ f. f ++ true ∷ []) (sym (take-take i len values (omega arith)))

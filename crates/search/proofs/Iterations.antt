@@ -6,6 +6,7 @@ use Rattle.search.specs.States.{State, is_working, iterated}
 use Rattle.search.specs.declared.status.Status.{Status}
 use Rattle.search.specs.declared.status.Status.TheVariants.{Working, Found, Refuted}
 use Rattle.search.specs.declared.outcome.Outcome.{Outcome}
+use Rattle.search.proofs.Conflicts.{working_not_found, working_not_refuted}
 use Rattle.search.proofs.Steps.{not_working}
 
 pub steps_outcome : (s : Status) (n : ℕ) → steps_of (outcome s n) ≡ n
@@ -15,8 +16,8 @@ steps_outcome Refuted n = refl
 
 pub cases_working : (s : Status) → (s ≡ Working) ⊎ (s ≡ Working → ⊥)
 cases_working Working = inl refl
-cases_working Found = inr (λ e. let z : ◌≡◌ {A = ℕ} 0 1 = cc in omega arith)
-cases_working Refuted = inr (λ e. let z : ◌≡◌ {A = ℕ} 0 1 = cc in omega arith)
+cases_working Found = inr (λ e. working_not_found (sym e))
+cases_working Refuted = inr (λ e. working_not_refuted (sym e))
 
 module _ (step : State → List ℕ → State) (codes : List ℕ) where
   pub iterated_on : (k : ℕ) (s : State) → s.status ≡ Working → iterated step codes (suc k) s ≡ iterated step codes k (step s codes)
@@ -33,27 +34,29 @@ module _ (step : State → List ℕ → State) (codes : List ℕ) where
   iterated_none zero s e = refl
   iterated_none (suc k) s e = absurd (omega arith)
 
-  module _ {S : Type 0} (state : S → State) (view : S → View) (seen : (x : S) → (view x).status ≡ (state x).status) where
-    chain_iterated : (k n : ℕ) (s t : S) → Stepped view (λ x y. state y ≡ step (state x) codes) n s t → iterated step codes (n + k) (state s) ≡ iterated step codes k (state t)
+  -- a searcher that holds such states, and whose steps are such steps
+  module _ {S : Type 0} (view : S → View) (state : S → State) (R : S → S → Type 0)
+      (shows : (x : S) → (view x).status ≡ (state x).status) (goes_on : (x y : S) → R x y → state y ≡ step (state x) codes) where
+    chain_iterated : (k n : ℕ) (s t : S) → Stepped view R n s t → iterated step codes (n + k) (state s) ≡ iterated step codes k (state t)
     chain_iterated k n s t here = let z : 0 + k ≡ k = omega arith in ap (λ m. iterated step codes m (state s)) z
     chain_iterated k n s u (on {n = m} {t = t} chain working e) =
         let z : suc m + k ≡ m + suc k = omega arith in
         ap (λ x. iterated step codes x (state s)) z
         ∙ chain_iterated (suc k) m s t chain
-        ∙ iterated_on k (state t) (sym (seen t) ∙ working)
-        ∙ ap (iterated step codes k) (sym e)
+        ∙ iterated_on k (state t) (sym (shows t) ∙ working)
+        ∙ ap (iterated step codes k) (sym (goes_on t u e))
 
-    pub ran_state : (budget n : ℕ) (s t : S) → Stepped view (λ x y. state y ≡ step (state x) codes) n s t → n ≤ budget → ((view t).status ≡ Working → n ≡ budget) → state t ≡ iterated step codes budget (state s)
+    ran_state : (budget n : ℕ) (s t : S) → Stepped view R n s t → n ≤ budget → ((view t).status ≡ Working → n ≡ budget) → state t ≡ iterated step codes budget (state s)
     ran_state budget n s t chain within spent =
         let z : n + (budget - n) ≡ budget = omega arith in
         let left : iterated step codes (budget - n) (state t) ≡ state t = ⊎_elim
-        (λ (w : (state t).status ≡ Working). iterated_none (budget - n) (state t) (omega (arith, spent (seen t ∙ w))))
+        (λ (w : (state t).status ≡ Working). iterated_none (budget - n) (state t) (omega (arith, spent (shows t ∙ w))))
         (iterated_ended (budget - n) (state t))
         (cases_working (state t).status) in
         sym left ∙ sym (chain_iterated (budget - n) n s t chain) ∙ ap (λ m. iterated step codes m (state s)) z
 
-    -- a run from a first state that is written out
-    pub run_written : (start : State) (top stated budget : ℕ) (t : S) (r : Outcome) → ((begun : S) × (state begun ≡ start) × Stepped view (λ x y. state y ≡ step (state x) codes) (steps_of r) begun t) → Answers top stated codes budget (view t) r → state t ≡ iterated step codes budget start
-    run_written start top stated budget t r (begun, is, chain) a =
+    -- at the end of a run
+    pub run_written : (top stated budget : ℕ) (s t : S) (r : Outcome) → Stepped view R (steps_of r) s t → Answers top stated codes budget (view t) r → state t ≡ iterated step codes budget (state s)
+    run_written top stated budget s t r chain a =
         let count : steps_of r ≡ (view t).age = ap steps_of a.answer ∙ steps_outcome (view t).status (view t).age in
-        ran_state budget (steps_of r) begun t chain (omega (arith, a.within)) (λ w. count ∙ a.spent w) ∙ ap (iterated step codes budget) is
+        ran_state budget (steps_of r) s t chain (omega (arith, a.within)) (λ w. count ∙ a.spent w)

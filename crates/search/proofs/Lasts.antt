@@ -1,59 +1,46 @@
--- Where the last value that is as wanted stands, and what it says that there is none. Rests on specs/States.
-use Rattle.std.proofs.Common.{◌≡◌, ℕ, zero, suc, ◌+◌, ◌-◌, ◌<◌, ◌≤◌, Bool, true, false, List, [], ◌∷◌, ◌++◌, length, get_or, take, Some, None, Option, sym, refl, ap, ◌∙◌, subst, arith}
+-- Where the last false stands, and what it says that there is none. Rests on specs/States.
+use Rattle.std.proofs.Common.{◌≡◌, ℕ, zero, suc, ◌<◌, Bool, true, false, List, [], ◌∷◌, length, get_or, Some, None, Option, refl, subst, arith}
 use Rattle.std.specs.Bool.{beq}
-use Rattle.std.proofs.lemmas.List.{take_more, length-take-le}
 use Rattle.search.specs.States.{last_at, last_of, last_false}
 
-module _ (wanted : Bool) where
-  last_after_other : (b : Bool) → beq b wanted ≡ false → (bs : List Bool) → last_of wanted (bs ++ b ∷ []) ≡ last_of wanted bs
-  unfolding last_of
-  last_after_other b e [] = ap (λ h. last_at h None) e
-  last_after_other b e (x ∷ bs) = ap (last_at (beq x wanted)) (last_after_other b e bs)
+-- what an answer says of the values
+abbrev pub Last : List Bool → Option ℕ → Type 0
+Last bs (Some i) = (i < length bs) × (get_or bs i false ≡ false) × ((k : ℕ) → i < k → k < length bs → get_or bs k false ≡ true)
+Last bs None = (k : ℕ) → k < length bs → get_or bs k false ≡ true
 
-  last_after_wanted : (b : Bool) → beq b wanted ≡ true → (bs : List Bool) → last_of wanted (bs ++ b ∷ []) ≡ Some (length bs)
-  unfolding last_of
-  last_after_wanted b e [] = ap (λ h. last_at h None) e
-  last_after_wanted b e (x ∷ bs) = ap (last_at (beq x wanted)) (last_after_wanted b e bs)
+last_step : (b : Bool) (bs : List Bool) (o : Option ℕ) → Last bs o → Last (b ∷ bs) (last_at (beq b false) o)
+last_step b bs (Some i) (l, here, after) = (omega arith, here, then)
+  where
+    then : (k : ℕ) → suc i < k → k < suc (length bs) → get_or (b ∷ bs) k false ≡ true
+    then zero m n = absurd (omega arith)
+    then (suc k) m n = after k (omega arith) (omega arith)
+last_step false bs None h = (omega arith, refl, then)
+  where
+    then : (k : ℕ) → 0 < k → k < suc (length bs) → get_or (false ∷ bs) k false ≡ true
+    then zero m n = absurd (omega arith)
+    then (suc k) m n = h k (omega arith)
+last_step true bs None h = then
+  where
+    then : (k : ℕ) → k < suc (length bs) → get_or (true ∷ bs) k false ≡ true
+    then zero n = refl
+    then (suc k) n = h k (omega arith)
 
-  module _ (values : List Bool) (n : ℕ) (some : 0 < n) (within : n ≤ length values) where
-    abbrev last_value : Bool
-    last_value = get_or values (n - 1) false
-
-    take_last : take n values ≡ take (n - 1) values ++ last_value ∷ []
-    take_last =
-        let e : n - 1 + 1 ≡ n = omega arith in
-        rw e at (take_more values (n - 1) false (omega arith))
-
-    -- another value at the end changes nothing
-    pub last_other : beq last_value wanted ≡ false → last_of wanted (take (n - 1) values) ≡ last_of wanted (take n values)
-    last_other e = rw (take_last) (sym (last_after_other last_value e (take (n - 1) values)))
-
-    pub last_here : beq last_value wanted ≡ true → Some (n - 1) ≡ last_of wanted (take n values)
-    last_here e = rw (take_last) (sym (last_after_wanted last_value e (take (n - 1) values) ∙ ap Some (length-take-le (n - 1) values (omega arith))))
-
-  pub last_none : (values : List Bool) (n : ℕ) → n ≤ 0 → None ≡ last_of wanted (take n values)
-  unfolding last_of
-  last_none values zero l = refl
-  last_none values (suc n) l = absurd (omega arith)
+last_told : (bs : List Bool) → Last bs (last_false bs)
+unfolding last_of
+last_told [] = λ k l. absurd (omega arith)
+last_told (b ∷ bs) = last_step b bs (last_false bs) (last_told bs)
 
 -- without a false, all are true
-abbrev AllTrue : List Bool → Option ℕ → Type 0
-AllTrue bs (Some i) = Unit {0}
-AllTrue bs None = (v : ℕ) → v < length bs → get_or bs v false ≡ true
+pub none_all_true : (bs : List Bool) → last_false bs ≡ None → (k : ℕ) → k < length bs → get_or bs k false ≡ true
+none_all_true bs e = subst (Last bs) e (last_told bs)
 
-all_true_step : (b : Bool) (bs : List Bool) (o : Option ℕ) → AllTrue bs o → AllTrue (b ∷ bs) (last_at (beq b false) o)
-all_true_step b bs (Some i) h = tt
-all_true_step false bs None h = tt
-all_true_step true bs None h = λ v. at v
-  where
-    at : (v : ℕ) → v < suc (length bs) → get_or (true ∷ bs) v false ≡ true
-    at zero l = refl
-    at (suc v) l = h v (omega arith)
+last_same : (bs : List Bool) (o p : Option ℕ) → Last bs o → Last bs p → o ≡ p
+last_same bs (Some i) (Some j) s t = grind arith
+last_same bs (Some i) None s t = grind arith
+last_same bs None (Some j) s t = grind arith
+last_same bs None None s t = refl
 
-all_true : (bs : List Bool) → AllTrue bs (last_false bs)
-unfolding last_of
-all_true [] = λ v l. absurd (omega arith)
-all_true (b ∷ bs) = all_true_step b bs (last_false bs) (all_true bs)
-
-pub none_all_true : (bs : List Bool) → last_false bs ≡ None → (v : ℕ) → v < length bs → get_or bs v false ≡ true
-none_all_true bs e = subst (AllTrue bs) e (all_true bs)
+pub last_from : (bs : List Bool) (o : Option ℕ) → (o ≡ None → (k : ℕ) → k < length bs → get_or bs k false ≡ true)
+    → ((i : ℕ) → o ≡ Some i → (i < length bs) × (get_or bs i false ≡ false) × ((k : ℕ) → i < k → k < length bs → get_or bs k false ≡ true)) → o ≡ last_false bs
+last_from bs None none found = last_same bs None (last_false bs) (none refl) (last_told bs)
+last_from bs (Some i) none found = last_same bs (Some i) (last_false bs) (found i refl) (last_told bs)

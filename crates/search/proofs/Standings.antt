@@ -2,10 +2,9 @@
 use Rattle.std.proofs.Common.{◌≡◌, ℕ, ◌+◌, ◌<◌, ◌≤◌, List, sym, ap, ◌∙◌, subst, add-one, arith}
 use Rattle.clauses.specs.Meaning.{Assignment, MeetsAll}
 use Rattle.search.specs.Searching.{View, Begun, Moved, Stepped, on, Answers, outcome}
-use Rattle.search.specs.declared.status.Status.{Status}
 use Rattle.search.specs.declared.status.Status.TheVariants.{Working, Found, Refuted}
 use Rattle.search.specs.declared.outcome.Outcome.{Outcome}
-use Rattle.search.proofs.Conflicts.{working_not_found, working_not_refuted}
+use Rattle.search.proofs.Conflicts.{working_not_found, working_not_refuted, found_not_refuted}
 
 pub record Standing (top stated : ℕ) (codes : List ℕ) (n : ℕ) (s : View) : Type 0 where
   pub at_sound : s.sound
@@ -44,9 +43,6 @@ module _ (top stated : ℕ) (codes : List ℕ) where
         at_refuted = m.refutes;
       }
 
-  found_or_not : (s : Status) → s ≡ Refuted → s ≡ Found → ⊥
-  found_or_not s r f = let z : ◌≡◌ {A = ℕ} 0 1 = cc in omega arith
-
   -- at the end of a run with this budget
   pub standing_answers : (n budget : ℕ) (s : View) (r : Outcome) → Standing top stated codes n s → n ≤ budget → (s.status ≡ Working → n ≡ budget) → (s.status ≡ Working → 0 < s.reserve) → r ≡ outcome s.status n → Answers top stated codes budget s r
   standing_answers n budget s r at within spent lively is = record {
@@ -54,7 +50,7 @@ module _ (top stated : ℕ) (codes : List ℕ) where
     answer = is ∙ ap (outcome s.status) (sym at.at_age);
     within = omega (arith, at.at_age);
     found = at.at_found;
-    none = λ w α meets. at.at_refuted w α (at.at_open (found_or_not s.status w) α meets);
+    none = λ w α meets. at.at_refuted w α (at.at_open (λ f. found_not_refuted (sym f ∙ w)) α meets);
     spent = λ w. at.at_age ∙ spent w;
     enough = λ e w. omega (arith, spent w, lively w, at.at_reserve);
   }

@@ -1,15 +1,13 @@
 -- A step that moves, and one that changes nothing. Rests on specs/States and specs/Walking.
-use Rattle.std.proofs.Common.{◌≡◌, ℕ, ◌<◌, ◌≤◌, Bool, true, false, ◌⊎◌, List, length, Some, None, Option, sym, refl, ap, ◌∙◌, subst, inl, inr, ⊎_elim, arith}
-use Rattle.std.proofs.lemmas.Bool.{and_from, and_left, and_right, cond-true, cond-false, lt-ltb, le-ltb, eqb-false}
-use Rattle.clauses.specs.Falsity.{first_false_row}
+use Rattle.std.proofs.Common.{◌≡◌, ℕ, ◌<◌, ◌≤◌, Bool, false, ◌⊎◌, List, sym, refl, ap, ◌∙◌, subst, inl, inr, ⊎_elim, arith}
+use Rattle.std.proofs.lemmas.Bool.{and_from, and_left, and_right, cond-true, cond-false, lt-ltb, le-ltb}
 use Rattle.search.specs.Limits.{age_limit}
 use Rattle.search.specs.Meanings.{seen_with}
 use Rattle.search.specs.Searching.{Moved}
 use Rattle.search.specs.States.{State, is_working, stepped}
-use Rattle.search.specs.Walking.{prefix_at, prefix_of}
 use Rattle.search.specs.declared.status.Status.{Status}
 use Rattle.search.specs.declared.status.Status.TheVariants.{Working, Found, Refuted}
-use Rattle.search.specs.declared.walker.prefix.Prefix.TheVariants.{Extendable}
+use Rattle.search.proofs.Conflicts.{working_not_found, working_not_refuted}
 use Rattle.search.proofs.Steady.{Steady}
 
 pub not_working : (s : Status) → (s ≡ Working → ⊥) → is_working s ≡ false
@@ -50,17 +48,5 @@ module _ {S : Type 0} (state : S → State) (reserve : Status → ℕ → List B
   }
 
 pub ended : {s : Status} → (s ≡ Found) ⊎ (s ≡ Refuted) → s ≡ Working → ⊥
-ended (inl f) w = let z : ◌≡◌ {A = ℕ} 0 1 = cc in omega arith
-ended (inr r) w = let z : ◌≡◌ {A = ℕ} 0 1 = cc in omega arith
-
--- where one more variable may have a value, one has none
-not_full : (o : Option ℕ) (all : Bool) → prefix_at o all ≡ Extendable → all ≡ false
-not_full (Some row) all e = let z : ◌≡◌ {A = ℕ} 0 1 = cc in absurd (omega arith)
-not_full None true e = let z : ◌≡◌ {A = ℕ} 0 1 = cc in absurd (omega arith)
-not_full None false e = refl
-
-pub extendable_room : (s : State) (codes : List ℕ) → prefix_of s codes ≡ Extendable → length s.values ≤ s.variables → length s.values < s.variables
-unfolding prefix_of
-extendable_room s codes e short =
-    let ne = eqb-false (length s.values) s.variables (not_full (first_false_row s.variables s.values codes) _ e) in
-    omega arith
+ended (inl f) w = working_not_found (sym w ∙ f)
+ended (inr r) w = working_not_refuted (sym w ∙ r)

@@ -1,7 +1,6 @@
 -- A working counter or walker has a reserve left: what the impls' laws cite. Rests on Held and Meanings.
 use Rattle.std.specs.Prelude.{◌≡◌, ℕ, zero, suc, ◌^◌, ◌<◌, ◌≤◌, Bool, true, false, List, [], ◌∷◌, length}
 use Rattle.std.proofs.Common.{sym, ap, subst, arith, add-one, pow-suc, pow_pos, pow_mono}
-use Rattle.std.proofs.lemmas.List.{length-take}
 use Rattle.search.specs.Held.{counter_state}
 use Rattle.search.specs.Meanings.{number, counter_reserve, counter_view, nodes, ahead_nodes, walker_reserve, walker_view}
 use Rattle.search.specs.States.{State}
@@ -30,8 +29,8 @@ counter_lively s short working =
     let P : Status → Type 0 = λ w. 0 < counter_reserve w s.variables s.values in
     subst P (sym working) (omega (arith, number_below s.values, pow_mono short))
 
-pub held_counter_lively : (c : Counter) → c.status ≡ Working → 0 < (counter_view (counter_state c)).reserve
-held_counter_lively c working = counter_lively (counter_state c) (omega (arith, length-take c.variables c.values)) working
+pub held_counter_lively : (c : Counter) → c.held.status ≡ Working → 0 < (counter_view (counter_state c)).reserve
+held_counter_lively c working = counter_lively (counter_state c) (omega (arith, c.whole)) working
 
 pub walker_lively : (s : State) → s.status ≡ Working → 0 < (walker_view s).reserve
 walker_lively s working =

@@ -1,4 +1,4 @@
--- Runs of the counter and of the walker with a budget, and what they answer. Rests on Counting, Walking and Searching.
+-- Runs of searchers that are written out, of the counter and of the walker, with a budget, and what they answer. Rests on Counting, Walking and Searching.
 use Rattle.std.specs.Prelude.{ℕ, List}
 use Rattle.search.specs.Limits.{capped}
 use Rattle.search.specs.Searching.{outcome}
@@ -7,11 +7,15 @@ use Rattle.search.specs.Counting.{counter_start, counter_step}
 use Rattle.search.specs.Walking.{walker_start, walker_step}
 use Rattle.search.specs.declared.outcome.Outcome.{Outcome}
 
+-- from the first state over these variables, by this step
+abbrev pub run_of : (ℕ → State) → (State → List ℕ → State) → ℕ → List ℕ → ℕ → State
+run_of start step variables codes budget = iterated step codes budget (start (capped variables))
+
 abbrev pub counter_run : ℕ → List ℕ → ℕ → State
-counter_run variables codes budget = iterated counter_step codes budget (counter_start (capped variables))
+counter_run = run_of counter_start counter_step
 
 abbrev pub walker_run : ℕ → List ℕ → ℕ → State
-walker_run variables codes budget = iterated walker_step codes budget (walker_start (capped variables))
+walker_run = run_of walker_start walker_step
 
 abbrev pub answered : State → Outcome
 answered s = outcome s.status s.age

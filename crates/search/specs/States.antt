@@ -19,6 +19,19 @@ fresh variables values = record { variables = variables; values = values; status
 abbrev pub aged : State → List Bool → Status → State
 aged s values status = record { variables = s.variables; values = values; status = status; age = s.age + 1 }
 
+abbrev pub older : State → State
+older s = aged s s.values s.status
+
+-- the same but for the values, the status or the age
+abbrev pub with_values : State → List Bool → State
+with_values s values = record { variables = s.variables; values = values; status = s.status; age = s.age }
+
+abbrev pub with_status : State → Status → State
+with_status s status = record { variables = s.variables; values = s.values; status = status; age = s.age }
+
+abbrev pub with_age : State → ℕ → State
+with_age s age = record { variables = s.variables; values = s.values; status = s.status; age = age }
+
 -- the index of the last value that is as wanted, told from the rest's
 abbrev pub last_at : Bool → Option ℕ → Option ℕ
 last_at here (Some i) = Some (suc i)
@@ -34,6 +47,11 @@ last_false values = last_of false values
 -- the value at this index turned to true, and what comes after it dropped
 abbrev pub cut : List Bool → ℕ → List Bool
 cut values i = take i values ++ true ∷ []
+
+-- the last false turned to true and what comes after it dropped, where there is one
+abbrev pub turned : State → Option ℕ → State
+turned s (Some i) = with_values s (cut s.values i)
+turned s None = s
 
 -- filled up with false to n values
 unfoldable pub filled : ℕ → List Bool → List Bool

@@ -1,16 +1,12 @@
-ghost use Rattle.std.specs.Prelude.{◌≤◌};
+ghost use Rattle.std.specs.Prelude.{◌≡◌, length};
 
-use crate::limits::MAX_VARIABLES;
-use crate::status::Status;
+use crate::held::Held;
 
 pub mod counting;
 
 // Counts through the assignments in binary, and holds the present one: the values of all the variables.
 #[derive(Drop)]
 pub struct Counter {
-    values: [bool; MAX_VARIABLES],
-    variables: usize,
-    status: Status,
-    age: u32,
-    ghost ok: { variables ≤ 756 },
+    held: Held,
+    ghost whole: { length held.values ≡ held.variables },
 }

@@ -4,6 +4,7 @@ ghost use Rattle.search.specs.Examples.{WorkedExamples};
 use crate::counter::Counter;
 use crate::machines::run_both;
 use crate::outcome::Outcome;
+use crate::problem::Problem;
 use crate::walker::Walker;
 
 // Variables 1 and 3 true, 2 false, and the clauses of a triangle: nothing meets them.
@@ -17,5 +18,10 @@ pub fn triangle() -> (Outcome, Outcome)
 {
     let mut counter = Counter::new();
     let mut walker = Walker::new();
-    run_both(&mut counter, &mut walker, 3, &TRIANGLE, 100)
+    let problem = Problem {
+        variables: 3,
+        codes: &TRIANGLE,
+        budget: 100,
+    };
+    run_both(&mut counter, &mut walker, problem)
 }

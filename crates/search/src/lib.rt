@@ -3,11 +3,14 @@
 
 pub mod counter;
 pub mod examples;
+mod held;
 pub mod limits;
 pub mod machines;
 pub mod outcome;
+pub mod problem;
 pub mod running;
 pub mod searcher;
 pub mod status;
-mod values;
 pub mod walker;
+pub mod watch;
+pub mod written;

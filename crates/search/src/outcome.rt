@@ -1,6 +1,9 @@
-ghost use Rattle.std.specs.Prelude.{◌≡◌};
-ghost use Rattle.search.specs.Searching.{steps_of};
+ghost use Rattle.std.specs.Prelude.{◌≡◌, Some};
+ghost use Rattle.search.specs.Searching.{outcome, steps_of};
 ghost use Rattle.search.specs.Words.{outcome_word};
+
+use crate::status::Status;
+use std::fmt;
 
 // What a run answers, with the steps that it took: found, none (`Refuted`), or spent.
 #[derive(Clone, Copy)]
@@ -11,6 +14,17 @@ pub enum Outcome {
 }
 
 impl Outcome {
+    // The answer of a run that took these steps and left this status.
+    pub fn new(status: Status, steps: u32) -> Outcome
+        ensures { result ≡ outcome status steps }
+    {
+        match status {
+            Status::Working => Outcome::Spent(steps),
+            Status::Found => Outcome::Found(steps),
+            Status::Refuted => Outcome::Refuted(steps),
+        }
+    }
+
     pub fn steps(self) -> u32
         ensures { result ≡ steps_of self }
     {
@@ -27,5 +41,13 @@ impl Outcome {
             Outcome::Refuted(_) => "none",
             Outcome::Spent(_) => "spent",
         }
+    }
+}
+
+impl fmt::Display for Outcome {
+    ghost output = { λ r. Some (outcome_word r) };
+
+    fn fmt<W: fmt::Write>(&self, f: &mut fmt::Formatter<W>) -> fmt::Result {
+        f.write_str(self.word())
     }
 }

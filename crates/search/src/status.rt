@@ -1,5 +1,7 @@
-ghost use Rattle.std.specs.Prelude.{◌≡◌};
+ghost use Rattle.std.specs.Prelude.{◌≡◌, Some};
 ghost use Rattle.search.specs.Words.{status_word};
+
+use std::fmt;
 
 // How far a search has come: working, found, or none (`Refuted`).
 #[derive(Clone, Copy)]
@@ -18,5 +20,13 @@ impl Status {
             Status::Found => "found",
             Status::Refuted => "none",
         }
+    }
+}
+
+impl fmt::Display for Status {
+    ghost output = { λ s. Some (status_word s) };
+
+    fn fmt<W: fmt::Write>(&self, f: &mut fmt::Formatter<W>) -> fmt::Result {
+        f.write_str(self.word())
     }
 }

@@ -12,31 +12,40 @@ mod showing;
 
 use crate::reading::read_numbers;
 use crate::showing::{Shown, trace};
-use lines::first_line;
+use clauses::WIDTH;
+use lines::Lines;
 use search::counter::Counter;
 use search::machines::run_both;
+use search::problem::Problem;
 use search::walker::Walker;
 use std::io;
 use std::io::Read;
 
 // Both searchers on one problem: each state of each, and then what both answer.
-fn solve(rt: &HostRuntime, variables: usize, budget: u32, codes: &[u16]) -> io::Result<()> {
-    let clauses = codes.len() / 3;
-    println!(rt; "{variables} variables, {clauses} clauses, budget {budget}")?;
+fn solve(rt: &HostRuntime, problem: Problem) -> io::Result<()> {
+    let clauses = problem.codes.len() / WIDTH;
+    println!(rt;
+        "{} variables, {clauses} clauses, budget {}",
+        problem.variables, problem.budget
+    )?;
     let mut counter = Counter::new();
     let mut walker = Walker::new();
-    trace(rt, &mut counter, variables, codes, budget)?;
-    trace(rt, &mut walker, variables, codes, budget)?;
-    let (counted, walked) = run_both(&mut counter, &mut walker, variables, codes, budget);
-    println!(rt; "counter {} {}", counted.word(), counted.steps())?;
-    println!(rt; "walker {} {}", walked.word(), walked.steps())
+    trace(rt, &mut counter, problem)?;
+    trace(rt, &mut walker, problem)?;
+    let (counted, walked) = run_both(&mut counter, &mut walker, problem);
+    println!(rt; "counter {counted} {}", counted.steps())?;
+    println!(rt; "walker {walked} {}", walked.steps())
 }
 
 fn answer(rt: &HostRuntime, line: &[u8]) -> io::Result<()> {
-    let numbers = read_numbers(rt.alloc(), line)?;
-    if let Some(numbers) = numbers {
+    if let Some(numbers) = read_numbers(rt.alloc(), line)? {
         if let [variables, budget, codes @ ..] = numbers.as_slice() {
-            return solve(rt, *variables as usize, *budget as u32, codes);
+            let problem = Problem {
+                variables: usize::from(*variables),
+                codes,
+                budget: u32::from(*budget),
+            };
+            return solve(rt, problem);
         }
     }
     println!(rt; "?")
@@ -45,11 +54,8 @@ fn answer(rt: &HostRuntime, line: &[u8]) -> io::Result<()> {
 fn main(rt: HostRuntime) -> io::Result<()> {
     let mut input = Vec::new(rt.alloc());
     rt.stdin().read_to_end(&mut input)?;
-    let mut rest = input.as_slice();
-    while !rest.is_empty() {
-        let (line, after) = first_line(rest);
+    for line in Lines::new(&input) {
         answer(&rt, line)?;
-        rest = after;
     }
     Ok(())
 }

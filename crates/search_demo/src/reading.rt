@@ -9,14 +9,11 @@ use std::alloc::{AllocError, Global};
 fn grow(number: Option<u16>, byte: u8) -> Option<u16>
     ensures { result ≡ (if is_digit byte && nat_le (grown number byte) most then Some (grown number byte) else None) }
 {
-    if byte < b'0' || byte > b'9' {
+    if !byte.is_ascii_digit() {
         return None;
     }
-    let value = 10 * number.unwrap_or(0) as u32 + (byte - b'0') as u32;
-    if value > u16::MAX as u32 {
-        return None;
-    }
-    Some(value as u16)
+    let digit = u16::from(byte - b'0');
+    number.unwrap_or(0).checked_mul(10)?.checked_add(digit)
 }
 
 // Adds a number that has ended, if there is one.
@@ -30,7 +27,7 @@ fn add(numbers: &mut Vec<u16>, number: Option<u16>) -> Result<(), AllocError>
 }
 
 // The numbers of a line, or nothing where it is no line of numbers. Numbers written in base ten are read back.
-#[tactic(auto, using(crate::proofs::ReadBack::read_back))]
+#[tactic(auto, using(crate::proofs::ReadBack::read_back), unfolding(crate::specs::Reading::read_on))]
 pub fn read_numbers(heap: Global, line: &[u8]) -> Result<Option<Vec<u16>>, AllocError>
     ensures value { IfOk result (λ o. option_map vec_items o ≡ numbers_of line.now) }
     ensures back { ReadBack }

@@ -1,61 +1,38 @@
-ghost use Rattle.std.specs.Prelude.{◌≡◌, ◌^◌, ◌<◌};
+ghost use Rattle.std.specs.Prelude.{◌≡◌, ◌^◌, refl};
 ghost use Rattle.search.specs.Counting.{counter_start, counter_next, counter_step};
 ghost use Rattle.search.specs.Held.{counter_state};
-ghost use Rattle.search.specs.Limits.{age_limit, capped};
+ghost use Rattle.search.specs.Limits.{capped};
 ghost use Rattle.search.specs.Lively.{held_counter_lively};
 ghost use Rattle.search.specs.Meanings.{counter_view};
-ghost use Rattle.search.specs.States.{aged, last_false};
-ghost use Rattle.search.specs.declared.status.Status.TheVariants.{Found};
+ghost use Rattle.search.specs.States.{last_false, older};
 
 use crate::counter::Counter;
-use crate::limits::{AGE_LIMIT, MAX_VARIABLES};
+use crate::held::Held;
+use crate::limits::AGE_LIMIT;
 use crate::searcher::Searcher;
 use crate::status::Status;
-use crate::values::{clear, last_index, shown};
-use clauses::first_false;
+use crate::written::Written;
 
 impl Counter {
     // A counter that has begun over no variables.
+    #[tactic(auto, unfolding(crate::specs::States::filled))]
     pub fn new() -> Counter
         ensures { counter_state result ≡ counter_start 0 }
     {
-        Counter {
-            values: [false; MAX_VARIABLES],
-            variables: 0,
-            status: Status::Working,
-            age: 0,
-        }
-    }
-
-    // The present assignment.
-    pub fn values(&self) -> &[bool]
-        ensures { result.now ≡ (counter_state self.now).values }
-    {
-        &self.values[0..self.variables]
+        Counter { held: Held::new() }
     }
 
     // On to the next assignment, variable 1 changing slowest; after the one that is all true, the search ends with none.
+    #[tactic(auto, using(crate::proofs::Fills::length_filled))]
     fn advance(&mut self)
-        requires { self.old.age < age_limit }
-        ensures { counter_state self.new ≡ counter_next (counter_state self.old) (last_false (counter_state self.old).values) }
+        ensures { older (counter_state self.new) ≡ counter_next (counter_state self.old) (last_false (counter_state self.old).values) }
     {
-        self.age += 1;
-        match last_index(self.values(), false) {
-            Some(index) => {
-                self.values[index] = true;
-                clear(&mut self.values, index + 1, self.variables);
-            }
-            None => self.status = Status::Refuted,
+        let held = &mut self.held; // lent until every variable has a value again
+        if held.turn() {
+            held.fill();
+        } else {
+            held.set_status(Status::Refuted);
         }
-    }
-
-    // Ends the search with the present assignment.
-    fn finish(&mut self)
-        requires { self.old.age < age_limit }
-        ensures { counter_state self.new ≡ aged (counter_state self.old) (counter_state self.old).values Found }
-    {
-        self.status = Status::Found;
-        self.age += 1; // the last step counts too
     }
 }
 
@@ -70,35 +47,58 @@ impl Searcher for Counter {
 
     ghost lively = { λ c _ working. held_counter_lively c working };
 
+    #[tactic(auto, using(crate::proofs::Fills::length_filled))]
     fn begin(&mut self, variables: usize) {
-        self.variables = variables.min(MAX_VARIABLES);
-        self.status = Status::Working;
-        self.age = 0;
-        clear(&mut self.values, 0, self.variables);
+        let held = &mut self.held; // lent until every variable has a value
+        held.begin(variables);
+        held.fill();
     }
 
     fn step(&mut self, codes: &[u16]) {
-        if self.age == AGE_LIMIT {
+        let age = self.held.age();
+        if age == AGE_LIMIT {
             return;
         }
-        match self.status {
-            Status::Working => match first_false(codes, self.variables, self.values()) {
+        match self.held.status() {
+            Status::Working => match self.held.assignment().first_false(codes) {
                 Some(_) => self.advance(),
-                None => self.finish(),
+                None => self.held.set_status(Status::Found),
             },
-            Status::Found | Status::Refuted => {}
+            Status::Found | Status::Refuted => return,
         }
+        self.held.set_age(age + 1); // the last step counts too
     }
 
     fn status(&self) -> Status {
-        self.status
+        self.held.status()
     }
 
     fn age(&self) -> u32 {
-        self.age
+        self.held.age()
     }
 
     fn value(&self, variable: usize) -> Option<bool> {
-        shown(self.status, self.variables, self.values(), variable)
+        self.held.value(variable)
+    }
+}
+
+impl Written for Counter {
+    ghost state = { counter_state };
+
+    ghost start = { counter_start };
+
+    ghost next = { counter_step };
+
+    ghost status_shown = { λ _. refl };
+
+    ghost age_shown = { λ _. refl };
+
+    ghost starts = { λ _ _ _ e. e };
+
+    ghost goes_on = { λ _ _ _ e. e };
+
+    // The present assignment.
+    fn values(&self) -> &[bool] {
+        self.held.values()
     }
 }
