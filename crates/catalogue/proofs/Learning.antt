@@ -1,7 +1,8 @@
 -- Names learned one after another: which are known at the end, and that none stands twice. Rests on Same of crate grammar.
 use Rattle.std.proofs.Common.{◌≡◌, ℕ, Bool, true, false, cond, not, ◌||◌, List, [], ◌∷◌, ◌++◌, map, Ok, Err, refl, sym, ap, ◌∙◌, subst}
 use Rattle.std.proofs.lemmas.Bool.{and_from, and_parts, false≢true}
-use Rattle.std.proofs.Math.Bool.{or-false}
+use Rattle.std.proofs.Math.Bool.{or-false, or_assoc}
+use Rattle.std.proofs.lemmas.List.Folds.{list_any-append}
 use Rattle.grammar.specs.declared.name.Name.{Name}
 use Rattle.grammar.specs.declared.name.Named.{Named}
 use Rattle.grammar.specs.Names.{same}
@@ -12,16 +13,7 @@ use Rattle.catalogue.specs.Known.{learned, known, distinct, Learned}
 
 -- a name behind a list
 has_push : (ns : List Name) (x n : Name) → has (ns ++ x ∷ []) n ≡ (has ns n || same x.bytes n.bytes)
-has_push [] x n = go (same x.bytes n.bytes)
-  where
-    go : (t : Bool) → cond t true false ≡ t
-    go true = refl
-    go false = refl
-has_push (y ∷ ys) x n = go (same y.bytes n.bytes) (has_push ys x n)
-  where
-    go : (t : Bool) → has (ys ++ x ∷ []) n ≡ (has ys n || same x.bytes n.bytes) → cond t true (has (ys ++ x ∷ []) n) ≡ (cond t true (has ys n) || same x.bytes n.bytes)
-    go true e = refl
-    go false e = e
+has_push ns x n = list_any-append (λ y. same y.bytes n.bytes) ns (x ∷ []) ∙ ap (λ u. has ns n || u) (or-false (same x.bytes n.bytes))
 
 -- a name that is the same as one that stands there stands there
 has_same : (ns : List Name) (x n : Name) → has ns x ≡ true → same x.bytes n.bytes ≡ true → has ns n ≡ true
@@ -45,12 +37,7 @@ has_learned ns [] n = sym (or-false (has ns n))
 has_learned ns (x ∷ xs) n =
     has_learned (cond (has ns x.name) ns (ns ++ x.name ∷ [])) xs n
     ∙ ap (λ u. u || has (map (λ (y : Named). y.name) xs) n) (has_kept ns x.name n)
-    ∙ go (has ns n) (same x.name.bytes n.bytes)
-  where
-    go : (a s : Bool) → ((a || s) || has (map (λ (y : Named). y.name) xs) n) ≡ (a || cond s true (has (map (λ (y : Named). y.name) xs) n))
-    go true s = refl
-    go false true = refl
-    go false false = refl
+    ∙ or_assoc (has ns n) (same x.name.bytes n.bytes) (has (map (λ (y : Named). y.name) xs) n)
 
 -- a name that does not stand in a list, behind it
 distinct_push : (ns : List Name) (x : Name) → distinct ns ≡ true → has ns x ≡ false → distinct (ns ++ x ∷ []) ≡ true
@@ -62,7 +49,7 @@ distinct_push (y ∷ ys) x d h =
     (ap not (has_push ys x y) ∙ still (has ys y) (same x.bytes y.bytes) apart (differs (same x.bytes y.bytes) other refl))
     (distinct_push ys x rest absent)
   where
-    parts : (s t : Bool) → cond s true t ≡ false → (s ≡ false) × (t ≡ false)
+    parts : (s t : Bool) → (s || t) ≡ false → (s ≡ false) × (t ≡ false)
     parts true t e = absurd (false≢true (sym e))
     parts false t e = (refl, e)
 

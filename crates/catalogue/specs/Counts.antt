@@ -1,5 +1,6 @@
 -- How the counts of a report go up. Rests on Answers of crate reading and Names of crate grammar.
-use Rattle.std.specs.Prelude.{ℕ, ◌+◌, ◌-◌, ◌^◌, min, Bool, true, false, cond, List, [], ◌∷◌, Ok, Err}
+use Rattle.std.specs.Prelude.{ℕ, ◌+◌, ◌-◌, ◌^◌, min, Bool, List, Ok, Err}
+use Rattle.std.specs.List.{list_any}
 use Rattle.grammar.specs.declared.name.Name.{Name}
 use Rattle.grammar.specs.Names.{same}
 use Rattle.reading.specs.Answers.{Answer}
@@ -19,5 +20,4 @@ missed (Err f) n = more n
 
 -- whether a name stands in a list
 abbrev pub has : List Name → Name → Bool
-has [] n = false
-has (x ∷ xs) n = cond (same x.bytes n.bytes) true (has xs n)
+has ns n = list_any (λ x. same x.bytes n.bytes) ns

@@ -5,7 +5,7 @@
 //! a mark under the place. Any bytes may come.
 #![tactic(auto)]
 
-use lines::first_line;
+use lines::Lines;
 use report::Report;
 use std::io;
 use std::io::Read;
@@ -18,12 +18,9 @@ fn main(rt: HostRuntime) -> io::Result<()> {
     let mut input = Vec::new(rt.alloc());
     rt.stdin().read_to_end(&mut input)?;
     let mut report = Report::new(rt.alloc());
-    let mut rest = input.as_slice();
-    while !rest.is_empty() {
-        let (line, after) = first_line(rest);
+    for line in Lines::new(&input) {
         let entry = report.enter(rt.alloc(), line)?;
         rt.print(entry.as_str())?;
-        rest = after;
     }
     let summary = report.summary(rt.alloc())?;
     rt.print(summary.as_str())

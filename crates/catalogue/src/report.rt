@@ -8,7 +8,7 @@ ghost use Rattle.grammar.specs.Readings.{said};
 ghost use Rattle.reading.specs.Reading.{reading};
 
 use crate::firing::firing_truth;
-use crate::text::{names_text, normal_text, readable, rule_text};
+use crate::text::{Writer, names_text, readable};
 use grammar::line::Line;
 use grammar::name::Name;
 use reading::fault::{RuleFault, TextFault};
@@ -87,12 +87,7 @@ impl Report {
 fn knows(names: &[Name], name: &Name) -> bool
     ensures { result ≡ has names.now name.now }
 {
-    for known in names {
-        if known.is(name) {
-            return true;
-        }
-    }
-    false
+    names.contains(name)
 }
 
 /// Keeps the names of a rule that are new.
@@ -119,10 +114,15 @@ fn taken_text(heap: Global, rule: &Line) -> Result<String, AllocError>
     ensures { IfOk result (λ s. string_bytes s ≡ taken_reply (said rule.now)) }
 {
     let names = names_text(heap, rule)?;
-    let text = rule_text(heap, rule, &names)?;
-    let normal = normal_text(heap, &rule.formula().normal(), &names)?;
-    let alone = word(firing_truth(rule.formula(), false));
-    let together = word(firing_truth(rule.formula(), true));
+    let writer = Writer {
+        heap,
+        names: &names,
+    };
+    let formula = rule.formula();
+    let text = writer.tree(&formula.table())?;
+    let normal = writer.tree(&formula.normal().table())?;
+    let alone = word(firing_truth(formula, false));
+    let together = word(firing_truth(formula, true));
     format!(in heap; "{text}\n  normal form {normal}\n  alone {alone}, together {together}\n")
 }
 

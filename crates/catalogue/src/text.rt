@@ -1,12 +1,12 @@
-ghost use Rattle.std.specs.Prelude.{◌≡◌, ℕ, List, IfOk, map, string_bytes};
+ghost use Rattle.std.specs.Prelude.{◌≡◌, ℕ, ◌<◌, ◌-◌, true, List, IfOk, length, map, string_bytes, slice_index_or};
 ghost use Rattle.catalogue.specs.Texts.{shown_bytes, shown_name, text_at, between, last_text, shown_pair, shown_literal, shown_node, shown_tree};
-ghost use Rattle.formula.specs.Formulas.{formula_tree};
-ghost use Rattle.formula.specs.NormalForms.{normal_tree};
+ghost use Rattle.formula.specs.Table.{trees};
+ghost use Rattle.formula.specs.Tree.{Tree};
 ghost use Rattle.grammar.specs.Readings.{said};
 
 use formula::literal::Literal;
 use formula::node::{Node, Pair};
-use formula::normal::NormalForm;
+use formula::table::Table;
 use grammar::line::Line;
 use grammar::name::Named;
 use std::alloc::{AllocError, Global};
@@ -52,115 +52,95 @@ pub(crate) fn names_text(heap: Global, line: &Line) -> Result<Vec<String>, Alloc
 }
 
 /// A text that was written before.
-fn written(texts: &Vec<String>, at: usize) -> &str
-    ensures { result.now ≡ text_at (map string_bytes texts.now.items) at }
+fn written(texts: &[String], at: usize) -> &str
+    ensures { result.now ≡ text_at (map string_bytes texts.now) at }
 {
-    match texts.get(at) {
-        Some(text) => text.as_str(),
-        None => "",
-    }
+    texts.get(at).map_or("", |text| text.as_str())
 }
 
-/// A pair, by its names.
-fn pair_text(heap: Global, names: &Vec<String>, pair: Pair<usize>) -> Result<String, AllocError>
-    ensures { IfOk result (λ s. string_bytes s ≡ shown_pair (map string_bytes names.now.items) pair) }
-{
-    let first = written(names, pair.first);
-    let second = written(names, pair.second);
-    format!(in heap; "({first} with {second})")
-}
-
-/// A literal, by its names.
-fn literal_text(heap: Global, names: &Vec<String>, literal: Literal) -> Result<String, AllocError>
-    ensures { IfOk result (λ s. string_bytes s ≡ shown_literal (map string_bytes names.now.items) literal) }
-{
-    let pair = pair_text(heap, names, literal.pair)?;
-    let sign = if literal.positive { "" } else { "not " };
-    format!(in heap; "{sign}{pair}")
-}
-
-/// Two parts with a word between them.
+/// Two texts with a word between them.
 fn joined(
     heap: Global,
-    texts: &Vec<String>,
+    texts: &[String],
     left: usize,
     word: &str,
     right: usize,
 ) -> Result<String, AllocError>
-    ensures { IfOk result (λ s. string_bytes s ≡ between word.now (text_at (map string_bytes texts.now.items) left) (text_at (map string_bytes texts.now.items) right)) }
+    ensures { IfOk result (λ s. string_bytes s ≡ between word.now (text_at (map string_bytes texts.now) left) (text_at (map string_bytes texts.now) right)) }
 {
     let first = written(texts, left);
     let second = written(texts, right);
     format!(in heap; "({first} {word} {second})")
 }
 
-/// A node over parts that were written before; a leaf is given as text.
-fn node_text<L: Copy>(
-    heap: Global,
-    node: Node<L>,
-    leaf: String,
-    texts: &Vec<String>,
-) -> Result<String, AllocError>
-    ensures { IfOk result (λ s. string_bytes s ≡ shown_node (λ _. string_bytes leaf) (map string_bytes texts.now.items) node) }
-{
-    match node {
-        Node::Leaf(_) => Ok(leaf),
-        Node::Not { part, .. } => {
-            let inner = written(texts, part);
-            format!(in heap; "not {inner}")
-        }
-        Node::And { left, right, .. } => joined(heap, texts, left, "and", right),
-        Node::Or { left, right, .. } => joined(heap, texts, left, "or", right),
-        Node::Then { left, right, .. } => joined(heap, texts, left, "then", right),
-    }
-}
-
-/// The text of the last node, which is the whole.
+/// The last text, which is the whole.
 fn whole(heap: Global, mut texts: Vec<String>) -> String
     ensures { string_bytes result ≡ last_text (map string_bytes texts.items) }
 {
-    match texts.pop() {
-        Some(text) => text,
-        None => String::new(heap),
+    texts.pop().unwrap_or_else(|| String::new(heap))
+}
+
+/// What a rule is written with: the heap, and the texts of the names of its line.
+#[derive(Clone, Copy)]
+pub(crate) struct Writer<'a> {
+    pub(crate) heap: Global,
+    pub(crate) names: &'a [String],
+}
+
+/// A leaf of a formula, which is written by the names of its line.
+pub(crate) trait Leaf: Copy {
+    ghost shown: { List (List ℕ) → Self → List ℕ };
+
+    fn text(self, writer: &Writer) -> Result<String, AllocError>
+        ensures { IfOk result (λ s. string_bytes s ≡ shown (map string_bytes writer.now.names.now) self) };
+}
+
+impl Leaf for Pair<usize> {
+    ghost shown = { shown_pair };
+
+    fn text(self, writer: &Writer) -> Result<String, AllocError> {
+        joined(writer.heap, writer.names, self.first, "with", self.second)
     }
 }
 
-/// The rule that a line says, with all its parentheses.
-pub(crate) fn rule_text(
-    heap: Global,
-    line: &Line,
-    names: &Vec<String>,
-) -> Result<String, AllocError>
-    ensures { IfOk result (λ s. string_bytes s ≡ shown_tree (shown_pair (map string_bytes names.now.items)) (formula_tree line.now.formula)) }
-{
-    let mut texts = Vec::new(heap);
-    for node in line.formula().nodes() {
-        let leaf = match *node {
-            Node::Leaf(pair) => pair_text(heap, names, pair)?,
-            _ => String::new(heap),
-        };
-        let text = node_text(heap, *node, leaf, &texts)?;
-        texts.push(text)?;
+impl Leaf for Literal {
+    ghost shown = { shown_literal };
+
+    fn text(self, writer: &Writer) -> Result<String, AllocError> {
+        let pair = self.pair.text(writer)?;
+        let sign = if self.positive { "" } else { "not " };
+        format!(in writer.heap; "{sign}{pair}")
     }
-    Ok(whole(heap, texts))
 }
 
-/// A normal form, with all its parentheses.
-pub(crate) fn normal_text(
-    heap: Global,
-    normal: &NormalForm,
-    names: &Vec<String>,
-) -> Result<String, AllocError>
-    ensures { IfOk result (λ s. string_bytes s ≡ shown_tree (shown_literal (map string_bytes names.now.items)) (normal_tree normal.now)) }
-{
-    let mut texts = Vec::new(heap);
-    for node in normal.nodes() {
-        let leaf = match *node {
-            Node::Leaf(literal) => literal_text(heap, names, literal)?,
-            _ => String::new(heap),
-        };
-        let text = node_text(heap, *node, leaf, &texts)?;
-        texts.push(text)?;
+impl Writer<'_> {
+    /// A node over parts that were written before.
+    fn node<L: Leaf>(&self, node: Node<L>, texts: &[String]) -> Result<String, AllocError>
+        ensures { IfOk result (λ s. string_bytes s ≡ shown_node (L.shown (map string_bytes self.now.names.now)) (map string_bytes texts.now) node) }
+    {
+        match node {
+            Node::Leaf(leaf) => leaf.text(self),
+            Node::Not { part, .. } => {
+                let inner = written(texts, part);
+                format!(in self.heap; "not {inner}")
+            }
+            Node::And { left, right, .. } => joined(self.heap, texts, left, "and", right),
+            Node::Or { left, right, .. } => joined(self.heap, texts, left, "or", right),
+            Node::Then { left, right, .. } => joined(self.heap, texts, left, "then", right),
+        }
     }
-    Ok(whole(heap, texts))
+
+    /// The formula of a table, with all its parentheses.
+    pub(crate) fn tree<L: Leaf>(&self, table: &Table<L>) -> Result<String, AllocError>
+        requires some { 0 < length table.now.nodes.now }
+        ensures { IfOk result (λ s. (d : Tree L) → string_bytes s ≡ shown_tree (L.shown (map string_bytes self.now.names.now)) (slice_index_or (trees d table.now.nodes.now) (length table.now.nodes.now - 1) d)) }
+    {
+        let nodes = table.nodes;
+        let mut texts = Vec::new(self.heap);
+        for node in nodes {
+            let text = self.node(*node, &texts)?;
+            texts.push(text)?;
+        }
+        Ok(whole(self.heap, texts))
+    }
 }

@@ -13,3 +13,4 @@ pub mod Made
 pub mod Information
 pub mod Monotony
 pub mod PlainTables
+pub mod PairTruths

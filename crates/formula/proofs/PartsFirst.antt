@@ -1,7 +1,7 @@
 -- The tests that parts stand before the whole, node by node.
-use Rattle.std.proofs.Common.{◌≡◌, ℕ, zero, suc, ◌+◌, ◌<◌, ◌≤◌, Bool, true, false, ◌&&◌, ltb, List, [], ◌∷◌, length, get_or, drop, sym, refl, ap, ◌∙◌, ap₂, arith}
-use Rattle.std.proofs.lemmas.List.{at_drop_more}
-use Rattle.std.proofs.lemmas.Bool.{and_parts, and_from, and_left, ltb-true, lt-ltb}
+use Rattle.std.proofs.Common.{◌≡◌, ℕ, zero, suc, ◌+◌, ◌<◌, ◌≤◌, true, ◌&&◌, ltb, List, [], ◌∷◌, length, get_or, refl, ap, ◌∙◌, ap₂, arith}
+use Rattle.std.specs.List.{enumerate_from, list_all}
+use Rattle.std.proofs.lemmas.Bool.{and_parts, and_from, ltb-true, lt-ltb}
 use Rattle.formula.specs.declared.node.Node.{Node}
 use Rattle.formula.specs.Evaluation.{all_below, parts_first}
 use Rattle.formula.specs.Parts.{parts, AllBelow}
@@ -26,19 +26,12 @@ first_at k (m ∷ ns) (suc i) n f l is =
     let b = and_parts (all_below k (parts m)) (parts_first (suc k) ns) f in
     ap (λ j. all_below j (parts n)) (let z : k + suc i ≡ suc k + i = omega arith in z) ∙ first_at (suc k) ns i n b.1 (omega arith) is
 
-module _ {A : Type 0} (ns : List (Node A)) (i : ℕ) (n : Node A) (l : i < length ns) (is : n ≡ get_or ns i n) where
-  -- the test at node i and from there on
-  first_step : parts_first i (drop i ns) ≡ (all_below i (parts n) && parts_first (i + 1) (drop (i + 1) ns))
-  first_step =
-      at_drop_more (parts_first i) ns i n l
-      ∙ ap₂ (λ x j. all_below i (parts x) && parts_first j (drop (i + 1) ns)) (sym is) (let z : suc i ≡ i + 1 = omega arith in z)
-
-  module _ (r : Bool) (e : r ≡ all_below i (parts n)) (before : parts_first i (drop i ns) ≡ parts_first 0 ns) where
-    pub first_fails : r ≡ false → false ≡ parts_first 0 ns
-    first_fails h = sym (sym before ∙ first_step ∙ and_left (all_below i (parts n)) (parts_first (i + 1) (drop (i + 1) ns)) (sym e ∙ h))
-
-    pub first_goes_on : r ≡ true → parts_first (i + 1) (drop (i + 1) ns) ≡ parts_first 0 ns
-    first_goes_on h = sym (first_step ∙ ap (λ x. x && parts_first (i + 1) (drop (i + 1) ns)) (sym e ∙ h)) ∙ before
+-- the same test of a table as one of its nodes with their indices
+pub all_numbered : {A : Type 0} (k : ℕ) (ns : List (Node A)) → list_all (λ p. all_below p.0 (parts p.1)) (enumerate_from k ns) ≡ parts_first k ns
+all_numbered k [] = refl
+all_numbered k (n ∷ ns) =
+    ap (λ b. all_below k (parts n) && b)
+    (all_numbered (k + 1) ns ∙ ap (λ j. parts_first j ns) (let z : k + 1 ≡ suc k = omega arith in z))
 
 pub below_wider : (k m : ℕ) (is : List ℕ) → k ≤ m → all_below k is ≡ true → all_below m is ≡ true
 below_wider k m [] l h = refl

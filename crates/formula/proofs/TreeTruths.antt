@@ -1,10 +1,12 @@
 -- The truths of the nodes of a table are those of their trees over the atoms.
-use Rattle.std.proofs.Common.{◌≡◌, ℕ, zero, suc, ◌+◌, ◌<◌, Bool, true, ◌&&◌, leb, List, ◌++◌, length, get_or, drop, sym, refl, ap, ◌∙◌, subst, arith}
+use Rattle.std.proofs.Common.{◌≡◌, ℕ, zero, suc, ◌+◌, ◌<◌, Bool, true, false, cond, ltb, List, ◌++◌, length, get_or, Ok, Err, refl, ap, sym, ◌∙◌, arith}
+use Rattle.std.specs.Prelude.{is_ok}
 use Rattle.std.proofs.lemmas.List.{get_or_default, get_or_append_left}
-use Rattle.std.proofs.lemmas.Bool.{cond-true, and_parts}
+use Rattle.std.proofs.lemmas.Bool.{false≢true}
+use Rattle.formula.specs.declared.evaluation.NotReady.TheVariants.{TooFewLeaves, TooLittleRoom, PartNotBefore}
 use Rattle.formula.specs.declared.node.Node.{Node}
 use Rattle.formula.specs.declared.node.Node.TheVariants.{Leaf, Not, And, Or, Then}
-use Rattle.formula.specs.Evaluation.{node_truths, all_below, parts_first, weighed, ready, evaluated}
+use Rattle.formula.specs.Evaluation.{node_truths, all_below, parts_first, readiness, weighed}
 use Rattle.formula.specs.Ops.{Ops}
 use Rattle.formula.specs.Parts.{parts}
 use Rattle.formula.specs.Table.{shape, trees}
@@ -37,19 +39,18 @@ module _ {S A : Type 0} (o : Ops S) (d : S) (v : A → S) (e : Tree A) where
         ∙ truth_shape (trees e ns) (get_or ls i d) n (λ a w. shown i a l (get_or_default ns i (Leaf a) (Not 0 0) l ∙ w))
         ∙ ap (truth o v) (sym (tree_step e ns i n f l is))
 
-truths_of_trees : {S A : Type 0} (o : Ops S) (d : S) (ns : List (Node A)) (ls old : List S) → parts_first 0 ns ≡ true
+pub truths_of_trees : {S A : Type 0} (o : Ops S) (d : S) (ns : List (Node A)) (ls old : List S) → parts_first 0 ns ≡ true
     → TruthsOfTrees o d ns ls (node_truths o d ns ls ++ old)
 truths_of_trees o d ns ls old f v shown e i l =
     let size = truths_length o d ns ls in
     get_or_append_left (node_truths o d ns ls) old d i (omega arith) ∙ before o d v e ns ls f shown (suc i) i (omega arith) l
 
--- a table that is ready, evaluated
-module _ {S A : Type 0} (o : Ops S) (d : S) (ns : List (Node A)) (ls old ts : List S) (r : Bool)
-    (e : r ≡ ready ns (length ls) (length old)) (on : r ≡ true) (is : ts ≡ node_truths o d ns ls ++ drop (length ns) old) where
-  pub evaluated_all : ts ≡ evaluated o d ns ls old
-  evaluated_all = is ∙ sym (cond-true (ready ns (length ls) (length old)) (node_truths o d ns ls ++ drop (length ns) old) old (sym e ∙ on))
-
-  pub evaluated_trees : TruthsOfTrees o d ns ls ts
-  evaluated_trees =
-      let first = (and_parts (leb (length ns) (length ls) && leb (length ns) (length old)) (parts_first 0 ns) (sym e ∙ on)).1 in
-      subst (TruthsOfTrees o d ns ls) (sym is) (truths_of_trees o d ns ls (drop (length ns) old) first)
+-- in a table that can be worked out parts stand before the whole
+pub ready_first : {A : Type 0} (ns : List (Node A)) (leaves room : ℕ) (r : Unit {0}) → readiness ns leaves room ≡ Ok r → parts_first 0 ns ≡ true
+ready_first ns leaves room r h = the_last (ltb leaves (length ns)) (ltb room (length ns)) (parts_first 0 ns) h
+  where
+    the_last : (few little first : Bool) → cond few (Err TooFewLeaves) (cond little (Err TooLittleRoom) (cond first (Ok tt) (Err PartNotBefore))) ≡ Ok r → first ≡ true
+    the_last true little first e = absurd (false≢true (ap is_ok e))
+    the_last false true first e = absurd (false≢true (ap is_ok e))
+    the_last false false true e = refl
+    the_last false false false e = absurd (false≢true (ap is_ok e))

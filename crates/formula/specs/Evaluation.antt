@@ -1,20 +1,19 @@
 -- The truths of all nodes of a table, and when they can be worked out (executable). Rests on Table, Parts and Truth.
-use Rattle.std.specs.Prelude.{ℕ, suc, Bool, true, cond, ◌&&◌, List, [], ◌∷◌, ◌++◌, map, length, drop, nat_le, nat_lt, slice_index_or}
+use Rattle.std.specs.Prelude.{ℕ, suc, Bool, true, cond, ◌&&◌, List, [], ◌∷◌, ◌++◌, map, length, drop, Ok, Err, Result, nat_le, nat_lt, slice_index_or}
+use Rattle.std.specs.List.{list_all}
+use Rattle.formula.specs.declared.evaluation.NotReady.{NotReady}
+use Rattle.formula.specs.declared.evaluation.NotReady.TheVariants.{TooFewLeaves, TooLittleRoom, PartNotBefore}
 use Rattle.formula.specs.declared.node.Node.{Node}
 use Rattle.formula.specs.declared.node.Node.TheVariants.{Leaf, Not, And, Or, Then}
 use Rattle.formula.specs.Ops.{Ops}
 use Rattle.formula.specs.Parts.{parts}
-use Rattle.formula.specs.Table.{trees}
+use Rattle.formula.specs.Table.{map_node, trees}
 use Rattle.formula.specs.Tree.{Tree, leaf}
 use Rattle.formula.specs.Truth.{truth}
 
 -- a node whose leaf is its own index, k
 abbrev pub numbered : {A : Type 0} → ℕ → Node A → Node ℕ
-numbered k (Leaf a) = Leaf k
-numbered k (Not p i) = Not p i
-numbered k (And p i j) = And p i j
-numbered k (Or p i j) = Or p i j
-numbered k (Then p i j) = Then p i j
+numbered k n = map_node (λ _. k) n
 
 -- a table, from index k on, whose leaves are their own indices
 abbrev pub numbered_from : {A : Type 0} → ℕ → List (Node A) → List (Node ℕ)
@@ -31,8 +30,7 @@ node_truths o d ns ls = map (truth o (λ i. slice_index_or ls i d)) (index_trees
 
 -- each of these indices is below k
 abbrev pub all_below : ℕ → List ℕ → Bool
-all_below k [] = true
-all_below k (i ∷ is) = nat_lt i k && all_below k is
+all_below k is = list_all (λ i. nat_lt i k) is
 
 -- from index k on, parts stand before the whole
 abbrev pub parts_first : {A : Type 0} → ℕ → List (Node A) → Bool
@@ -42,6 +40,11 @@ parts_first k (n ∷ ns) = all_below k (parts n) && parts_first (suc k) ns
 -- A table can be worked out with so many leaf truths and so much room: there is one of each for every node, and parts stand before the whole.
 abbrev pub ready : {A : Type 0} → List (Node A) → ℕ → ℕ → Bool
 ready ns leaves room = (nat_le (length ns) leaves && nat_le (length ns) room) && parts_first 0 ns
+
+-- why it cannot, if it cannot
+abbrev pub readiness : {A : Type 0} → List (Node A) → ℕ → ℕ → Result (Unit {0}) NotReady
+readiness ns leaves room =
+    cond (nat_lt leaves (length ns)) (Err TooFewLeaves) (cond (nat_lt room (length ns)) (Err TooLittleRoom) (cond (parts_first 0 ns) (Ok tt) (Err PartNotBefore)))
 
 -- What the room holds afterwards: the nodes' truths, then what stood there; all as it was if the table is not ready.
 abbrev pub evaluated : {S A : Type 0} → Ops S → S → List (Node A) → List S → List S → List S

@@ -9,6 +9,7 @@ pub mod Ops
 pub mod Scales
 pub mod Decided
 pub mod Truth
+pub mod Tests
 pub mod Evaluation
 pub mod Normal
 pub mod LiteralTable

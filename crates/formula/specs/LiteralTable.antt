@@ -1,5 +1,6 @@
 -- Tables over literals: their trees, and the nodes of normal forms (executable). Rests on Table.
-use Rattle.std.specs.Prelude.{ℕ, ◌-◌, Bool, true, false, ◌&&◌, List, [], ◌∷◌, length, slice_index_or}
+use Rattle.std.specs.Prelude.{ℕ, ◌-◌, Bool, true, false, List, length, slice_index_or}
+use Rattle.std.specs.List.{list_all}
 use Rattle.formula.specs.declared.literal.Literal.{Literal}
 use Rattle.formula.specs.declared.node.Node.{Node}
 use Rattle.formula.specs.declared.node.Node.TheVariants.{Leaf, Not, And, Or, Then}
@@ -24,8 +25,7 @@ is_plain (Then p i j) = false
 
 -- a table of nothing else
 abbrev pub all_plain : {A : Type 0} → List (Node A) → Bool
-all_plain [] = true
-all_plain (n ∷ ns) = is_plain n && all_plain ns
+all_plain ns = list_all is_plain ns
 
 -- the node of an `and` or an `or`, by the sign
 abbrev pub joined_node : {A : Type 0} → Bool → ℕ → ℕ → ℕ → Node A

@@ -1,5 +1,6 @@
 -- Which nodes of a table are parts of which. Rests on Node alone.
-use Rattle.std.specs.Prelude.{ℕ, ◌+◌, ◌<◌, cond, List, [], ◌∷◌, map, ◌==◌, slice_index_or}
+use Rattle.std.specs.Prelude.{ℕ, ◌+◌, ◌<◌, List, [], ◌∷◌, map, ◌==◌, slice_index_or}
+use Rattle.std.specs.List.{AllByRecursion, count_by}
 use Rattle.formula.specs.declared.node.Node.{Node}
 use Rattle.formula.specs.declared.node.Node.TheVariants.{Leaf, Not, And, Or, Then}
 
@@ -17,13 +18,11 @@ parts_at ns i = slice_index_or (map parts ns) i []
 
 -- each of these indices is below k
 abbrev pub AllBelow : ℕ → List ℕ → Type 0
-AllBelow k [] = Unit {0}
-AllBelow k (i ∷ is) = (i < k) × AllBelow k is
+AllBelow k is = AllByRecursion (λ i. i < k) is
 
 -- how many times i stands among these indices
 abbrev pub times : ℕ → List ℕ → ℕ
-times i [] = 0
-times i (j ∷ js) = cond (i == j) 1 0 + times i js
+times i js = count_by (λ j. i == j) js
 
 -- how many times a table names i as a part; a node that names it for both its parts counts twice
 abbrev pub mentions : {A : Type 0} → List (Node A) → ℕ → ℕ

@@ -5,6 +5,14 @@ use Rattle.formula.specs.declared.node.Node.TheVariants as node
 use Rattle.formula.specs.declared.node.Pair.{Pair}
 use Rattle.formula.specs.Tree.{Tree, leaf, not, and, or, then}
 
+-- the node with its leaf changed; a word stays
+abbrev pub map_node : {A B : Type 0} → (A → B) → Node A → Node B
+map_node f (node.Leaf a) = node.Leaf (f a)
+map_node f (node.Not p i) = node.Not p i
+map_node f (node.And p i j) = node.And p i j
+map_node f (node.Or p i j) = node.Or p i j
+map_node f (node.Then p i j) = node.Then p i j
+
 -- the index of a tree's top node in a table where the tree begins at k
 abbrev pub top : {A : Type 0} → ℕ → Tree A → ℕ
 top k (leaf a) = k

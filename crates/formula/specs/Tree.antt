@@ -16,6 +16,14 @@ map_tree f (and p t u) = and p (map_tree f t) (map_tree f u)
 map_tree f (or p t u) = or p (map_tree f t) (map_tree f u)
 map_tree f (then p t u) = then p (map_tree f t) (map_tree f u)
 
+-- whether every atom passes a test
+abbrev pub every : {A : Type 0} → (A → Bool) → Tree A → Bool
+every q (leaf a) = q a
+every q (not p t) = every q t
+every q (and p t u) = every q t && every q u
+every q (or p t u) = every q t && every q u
+every q (then p t u) = every q t && every q u
+
 -- the atoms, from left to right
 abbrev pub atoms : {A : Type 0} → Tree A → List A
 atoms (leaf a) = a ∷ []

@@ -1,10 +1,11 @@
-ghost use Rattle.std.specs.Prelude.{◌≡◌, ℕ, ◌≤◌, true, ◌++◌, length, drop, slice_index_or};
-ghost use Rattle.formula.specs.Evaluation.{all_below, parts_first, ready, evaluated, node_truths, weighed};
+ghost use Rattle.std.specs.Prelude.{◌≡◌, ℕ, ◌≤◌, true, ◌++◌, length, drop, slice_index_or, is_ok, OnOk};
+ghost use Rattle.formula.specs.Evaluation.{all_below, parts_first, ready, readiness, evaluated, node_truths, weighed};
 ghost use Rattle.formula.specs.Parts.{parts};
 ghost use Rattle.formula.specs.TruthLaws.{TruthsOfTrees};
 
 use crate::node::Node;
 use crate::scale::Scale;
+use crate::table::Table;
 
 // Whether the parts of a node stand before `at`.
 fn is_after_parts<L: Copy>(node: Node<L>, at: usize) -> bool
@@ -23,12 +24,10 @@ fn is_after_parts<L: Copy>(node: Node<L>, at: usize) -> bool
 fn has_parts_first<L: Copy>(nodes: &[Node<L>]) -> bool
     ensures { result ≡ parts_first 0 nodes.now }
 {
-    for (i, node) in nodes.iter().enumerate() {
-        if !is_after_parts(*node, i) {
-            return false;
-        }
-    }
-    true
+    nodes
+        .iter()
+        .enumerate()
+        .all(|(i, node)| is_after_parts(*node, i))
 }
 
 // The truth of one node, from that of its leaf and those of the nodes before it.
@@ -46,36 +45,59 @@ fn weigh<S: Scale + Copy, L: Copy>(node: Node<L>, leaf: S, truths: &[S]) -> S
 }
 
 // Writes the truth of each node, from the first on.
-fn fill<S: Scale + Copy, L: Copy>(nodes: &[Node<L>], leaves: &[S], truths: &mut [S])
-    requires first { parts_first 0 nodes.now ≡ true }
-    requires known { length nodes.now ≤ length leaves.now }
-    requires room { length nodes.now ≤ length truths.old }
-    ensures { truths.new ≡ node_truths S.ops S.blank nodes.now leaves.now ++ drop (length nodes.now) truths.old }
+pub(crate) fn fill<S: Scale + Copy, L: Copy>(table: &Table<L>, leaves: &[S], truths: &mut [S])
+    requires known { length table.now.nodes.now ≤ length leaves.now }
+    requires room { length table.now.nodes.now ≤ length truths.old }
+    ensures { truths.new ≡ node_truths S.ops S.blank table.now.nodes.now leaves.now ++ drop (length table.now.nodes.now) truths.old }
 {
-    for i in 0..nodes.len() {
-        truths[i] = weigh(nodes[i], leaves[i], truths);
+    let nodes = table.nodes;
+    for (i, node) in nodes.iter().enumerate() {
+        truths[i] = weigh(*node, leaves[i], truths);
     }
 }
 
+/// Why the nodes of a table cannot be worked out.
+#[derive(Clone, Copy, Debug)]
+pub enum NotReady {
+    /// There are fewer leaf truths than nodes.
+    TooFewLeaves,
+    /// There is room for fewer truths than nodes.
+    TooLittleRoom,
+    /// A part does not stand before the whole.
+    PartNotBefore,
+}
+
 // Whether there is a leaf truth and room for every node, and parts stand before the whole.
-fn is_ready<L: Copy>(nodes: &[Node<L>], leaves: usize, room: usize) -> bool
-    ensures { result ≡ ready nodes.now leaves room }
+fn check<L: Copy>(nodes: &[Node<L>], leaves: usize, room: usize) -> Result<(), NotReady>
+    ensures { result ≡ readiness nodes.now leaves room }
 {
-    nodes.len() <= leaves && nodes.len() <= room && has_parts_first(nodes)
+    if leaves < nodes.len() {
+        return Err(NotReady::TooFewLeaves);
+    }
+    if room < nodes.len() {
+        return Err(NotReady::TooLittleRoom);
+    }
+    if !has_parts_first(nodes) {
+        return Err(NotReady::PartNotBefore);
+    }
+    Ok(())
 }
 
 /// Works out the truth of every node of a table, in any scale: `leaves[i]` is the truth of the leaf
 /// at node `i`, and `truths[i]` becomes that of node `i`. What `leaves` holds at other nodes does not
-/// matter. Answers whether it could be done: if a slice is shorter than the table, or a part does not
-/// stand before the whole, nothing is changed.
-pub fn evaluate<S: Scale + Copy, L: Copy>(nodes: &[Node<L>], leaves: &[S], truths: &mut [S]) -> bool
-    ensures answer { result ≡ ready nodes.now (length leaves.now) (length truths.old) }
+/// matter. If a slice is shorter than the table, or a part does not stand before the whole, nothing
+/// is changed.
+pub fn evaluate<S: Scale + Copy, L: Copy>(
+    nodes: &[Node<L>],
+    leaves: &[S],
+    truths: &mut [S],
+) -> Result<(), NotReady>
+    ensures answer { is_ok result ≡ ready nodes.now (length leaves.now) (length truths.old) }
+    ensures why { result ≡ readiness nodes.now (length leaves.now) (length truths.old) }
     ensures after { truths.new ≡ evaluated S.ops S.blank nodes.now leaves.now truths.old }
-    ensures trees { result ≡ true → TruthsOfTrees S.ops S.blank nodes.now leaves.now truths.new }
+    ensures trees { OnOk result (TruthsOfTrees S.ops S.blank nodes.now leaves.now truths.new) }
 {
-    let can = is_ready(nodes, leaves.len(), truths.len());
-    if can {
-        fill(nodes, leaves, truths);
-    }
-    can
+    check(nodes, leaves.len(), truths.len())?;
+    fill(&Table { nodes }, leaves, truths);
+    Ok(())
 }

@@ -9,3 +9,4 @@ pub mod literal;
 pub mod node;
 pub mod normal;
 pub mod scale;
+pub mod table;

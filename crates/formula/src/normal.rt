@@ -1,9 +1,11 @@
-ghost use Rattle.std.specs.Prelude.{◌≡◌, ℕ, ◌≤◌, true, take};
+ghost use Rattle.std.specs.Prelude.{◌≡◌, ℕ, true};
+ghost use Rattle.formula.specs.Held.{held};
 ghost use Rattle.formula.specs.LiteralTable.{literal_tree_of};
 ghost use Rattle.formula.specs.Normal.{is_normal, literal_place};
 ghost use Rattle.formula.specs.Table.{post};
 ghost use Rattle.formula.specs.Tree.{spans};
 
+use crate::bounded::Bounded;
 use crate::literal::Literal;
 use crate::node::Node;
 
@@ -14,12 +16,12 @@ pub mod table;
 /// last one the whole.
 ///
 /// Its nodes are those of one tree, each once, and its words stand in the line as the tree has them.
+/// It is a type of its own beside `Formula`: one type over the leaf would have to name in its facts which
+/// trees a missing part stands for and which words may stand there, for each leaf.
 #[derive(Clone, Copy)]
 pub struct NormalForm {
-    nodes: [Node<Literal>; 32],
-    count: usize,
-    ghost few: { count ≤ 32 },
-    ghost whole: { post 0 (literal_tree_of (take count nodes)) ≡ take count nodes },
-    ghost normal: { is_normal (literal_tree_of (take count nodes)) ≡ true },
-    ghost in_order: { spans literal_place 0 512 (literal_tree_of (take count nodes)) ≡ true },
+    nodes: Bounded<Node<Literal>, 32>,
+    ghost whole: { post 0 (literal_tree_of (held nodes)) ≡ held nodes },
+    ghost normal: { is_normal (literal_tree_of (held nodes)) ≡ true },
+    ghost in_order: { spans literal_place 0 512 (literal_tree_of (held nodes)) ≡ true },
 }

@@ -29,7 +29,8 @@ pub trait Scale: Sized {
     ghost dual: { (x y : Self) → ops.opposite (ops.both x y) ≡ ops.either (ops.opposite x) (ops.opposite y) };
 }
 
-/// A truth that may still be open.
+/// A truth that may still be open. It is no `Option<bool>`, so that a value that is open is not taken
+/// for one that is missing; `decided` gives the option.
 #[derive(Clone, Copy)]
 pub enum Three {
     Yes,
@@ -38,17 +39,11 @@ pub enum Three {
 }
 
 impl Three {
-    /// A truth of the scale of two, which is decided.
-    pub fn known(truth: bool) -> Three
-        ensures value { result ≡ known truth }
-        ensures tables { TruthTables }
-    {
-        if truth { Three::Yes } else { Three::No }
-    }
-
     /// The truth, if it is decided: then it is the truth however the open leaves are decided.
+    #[tactic(auto, using(crate::proofs::Information::informed))]
     pub fn decided(self) -> Option<bool>
         ensures value { result ≡ decided self }
+        ensures tables { TruthTables }
         ensures formulas { Informed (Pair ℕ) }
         ensures forms { Informed Literal }
         ensures nodes { Informed ℕ }
@@ -58,6 +53,14 @@ impl Three {
             Three::No => Some(false),
             Three::Open => None,
         }
+    }
+}
+
+impl From<bool> for Three {
+    ghost from_gives = { λ truth three. three ≡ known truth };
+
+    fn from(truth: bool) -> Three {
+        if truth { Three::Yes } else { Three::No }
     }
 }
 

@@ -63,7 +63,7 @@ pub one_tree : OneTree
 one_tree ts t u x y = some_same (sym (parsed x) ∙ parsed y)
 
 -- the automaton passes from wanting a part to having one, at the same depth
-pub moves : {l : Level} {ts r : List Token} {t : Phrase} → Reads l ts r t → (d : ℕ) → auto.run (stage.WantPart d) ts ≡ auto.run (stage.HavePart d) r
+pub moves : {l : Level} {ts r : List Token} {t : Phrase} → Reads l ts r t → (d : ℕ) → auto.run (Some (stage.WantPart d)) ts ≡ auto.run (Some (stage.HavePart d)) r
 moves pair_read d = refl
 moves (not_read x) d = moves x d
 moves (parens_read x) d = moves x (suc d)
@@ -75,4 +75,4 @@ moves (disjunction_read x) d = moves x d
 moves (then_read x y) d = moves x d ∙ moves y d
 
 pub accepts : {ts : List Token} {t : Phrase} → Is Rule ts t → auto.accepted ts ≡ true
-accepts x = ap auto.ended (moves (read_all x) 0)
+accepts x = ap auto.complete (moves (read_all x) 0)

@@ -1,14 +1,17 @@
 -- Names keep their numbers while more names are listed.
-use Rattle.std.proofs.Common.{◌≡◌, ℕ, zero, suc, ◌+◌, ◌<◌, ◌≤◌, Bool, true, false, cond, ltb, List, [], ◌∷◌, ◌++◌, length, get_or, drop, sym, refl, ap, ◌∙◌, subst, ap₂, ⊎_elim, arith, length-append}
-use Rattle.std.proofs.lemmas.Bool.{cond-true, cond-false, ltb-true, ltb-false, cases_eq}
-use Rattle.std.proofs.lemmas.List.{drop_more, drop_all, get_or_at, get_or_append_left}
+use Rattle.std.proofs.Common.{◌≡◌, ℕ, suc, ◌+◌, ◌<◌, ◌≤◌, Bool, true, false, cond, not, ltb, List, [], ◌∷◌, ◌++◌, length, get_or, Some, None, sym, refl, ap, ◌∙◌, subst, ap₂, ⊎_elim, add-zero, arith, length-append}
+use Rattle.std.specs.List.{position}
+use Rattle.std.proofs.lemmas.Bool.{cond-true, cond-false, eq-eqb, ne_eqb, ltb-true, ltb-false, cases_eq}
+use Rattle.std.proofs.lemmas.List.{get_or_at, get_or_append_left}
+use Rattle.std.proofs.lemmas.List.Folds.{prefix_len-append, position_or_len_push}
+use Rattle.std.proofs.lemmas.List.Sums.{prefix_len-le-length}
 use Rattle.std.proofs.ByRecursion.{All-push}
 use Rattle.std.specs.List.{AllByRecursion}
-use Rattle.formula.specs.Tree.{leaf, not, and, or, then}
+use Rattle.formula.specs.Tree.{leaf, not as no, and, or, then}
 use Rattle.formula.specs.Table.{top}
 use Rattle.grammar.specs.declared.name.Name.{Name}
 use Rattle.grammar.specs.declared.name.Named.{Named}
-use Rattle.grammar.specs.Names.{same, find, enlist, listed, Phrase, names_of, nobody, EachOnce, numbered}
+use Rattle.grammar.specs.Names.{is_named, find, enlist, listed, Phrase, names_of, nobody, EachOnce, numbered}
 use Rattle.grammar.proofs.Same.{same_self}
 
 -- the name stands in the list
@@ -16,30 +19,23 @@ abbrev pub Has : List Named → Name → Type 0
 Has ns n = find n ns < length ns
 
 pub find_most : (n : Name) (ns : List Named) → find n ns ≤ length ns
-find_most n [] = omega arith
-find_most n (x ∷ xs) = go (same x.name.bytes n.bytes) (find_most n xs)
+find_most n ns = prefix_len-le-length (λ x. not (is_named n x)) ns
+
+pub find_none : (n : Name) (ns : List Named) → None ≡ position (is_named n) ns → find n ns ≡ length ns
+find_none n ns e = go (ltb (find n ns) (length ns)) refl e
   where
-    go : (t : Bool) → find n xs ≤ length xs → cond t zero (suc (find n xs)) ≤ suc (length xs)
-    go true h = omega arith
-    go false h = omega arith
+    go : (t : Bool) → ltb (find n ns) (length ns) ≡ t → None ≡ cond t (Some (find n ns)) None → find n ns ≡ length ns
+    go true f g = absurd (let z : ⊥ = cc in z)
+    go false f g = omega (arith, find_most n ns, ltb-false _ _ f)
 
 find_more : (n : Name) (ns more : List Named) → Has ns n → find n (ns ++ more) ≡ find n ns
-find_more n [] more h = absurd (let z : ⊥ = omega arith in z)
-find_more n (x ∷ xs) more h = go (same x.name.bytes n.bytes) h (find_more n xs more)
-  where
-    go : (t : Bool) → cond t zero (suc (find n xs)) < suc (length xs) → (Has xs n → find n (xs ++ more) ≡ find n xs)
-        → cond t zero (suc (find n (xs ++ more))) ≡ cond t zero (suc (find n xs))
-    go true l f = refl
-    go false l f = ap suc (f (omega arith))
+find_more n ns more h = prefix_len-append (λ x. not (is_named n x)) ns more ∙ cond-false _ _ _ (ne_eqb _ _ (λ (e : find n ns ≡ length ns). let z : ⊥ = omega arith in z))
 
 find_last : (ns : List Named) (x : Named) → find x.name ns ≡ length ns → find x.name (ns ++ x ∷ []) ≡ length ns
-find_last [] x e = cond-true _ _ _ (same_self x.name.bytes)
-find_last (y ∷ ys) x e = go (same y.name.bytes x.name.bytes) e (find_last ys x)
-  where
-    go : (t : Bool) → cond t zero (suc (find x.name ys)) ≡ suc (length ys) → (find x.name ys ≡ length ys → find x.name (ys ++ x ∷ []) ≡ length ys)
-        → cond t zero (suc (find x.name (ys ++ x ∷ []))) ≡ suc (length ys)
-    go true l f = absurd (let z : ⊥ = omega arith in z)
-    go false l f = ap suc (f (omega arith))
+find_last ns x e =
+    position_or_len_push (is_named x.name) ns x
+    ∙ cond-true _ _ _ (eq-eqb _ _ e)
+    ∙ ap (λ t. length ns + cond t 0 1) (same_self x.name.bytes) ∙ add-zero (length ns)
 
 pub has_more : (n : Name) (ns more : List Named) → Has ns n → (find n (ns ++ more) ≡ find n ns) × Has (ns ++ more) n
 has_more n ns more h = let e = find_more n ns more h in let l = length-append ns more in (e, omega arith)
@@ -86,17 +82,10 @@ pub listed_append : (ns xs ys : List Named) → listed ns (xs ++ ys) ≡ listed 
 listed_append ns [] ys = refl
 listed_append ns (x ∷ xs) ys = listed_append (enlist ns x) xs ys
 
-pub enlist_length : (ns : List Named) (x : Named) → length (enlist ns x) ≤ length ns + 1
-enlist_length ns x = go (ltb (find x.name ns) (length ns))
-  where
-    go : (t : Bool) → length (cond t ns (ns ++ x ∷ [])) ≤ length ns + 1
-    go true = omega arith
-    go false = omega (arith, length-append ns (x ∷ []))
-
 -- all names of a rule stand in the list
 abbrev pub Holds : List Named → Phrase → Type 0
 Holds ns (leaf p) = Has ns p.first.name × Has ns p.second.name
-Holds ns (not p t) = Holds ns t
+Holds ns (no p t) = Holds ns t
 Holds ns (and p t u) = Holds ns t × Holds ns u
 Holds ns (or p t u) = Holds ns t × Holds ns u
 Holds ns (then p t u) = Holds ns t × Holds ns u
@@ -108,7 +97,7 @@ holds_keeps ns xs (leaf p) h =
       ap₂ (λ (i j : ℕ). leaf (record { place = p.place; first = i; second = j })) a.0 b.0,
       (a.1, b.1),
     )
-holds_keeps ns xs (not p t) h = let k = holds_keeps ns xs t h in (ap (not p) k.0, k.1)
+holds_keeps ns xs (no p t) h = let k = holds_keeps ns xs t h in (ap (no p) k.0, k.1)
 holds_keeps ns xs (and p t u) h = let k = holds_keeps ns xs t h.0 in let m = holds_keeps ns xs u h.1 in (ap₂ (and p) k.0 m.0, (k.1, m.1))
 holds_keeps ns xs (or p t u) h = let k = holds_keeps ns xs t h.0 in let m = holds_keeps ns xs u h.1 in (ap₂ (or p) k.0 m.0, (k.1, m.1))
 holds_keeps ns xs (then p t u) h = let k = holds_keeps ns xs t h.0 in let m = holds_keeps ns xs u h.1 in (ap₂ (then p) k.0 m.0, (k.1, m.1))
@@ -120,7 +109,7 @@ both_hold ns xs ys t u h k =
 pub listed_holds : (ns : List Named) (t : Phrase) → Holds (listed ns (names_of t)) t
 listed_holds ns (leaf p) =
     ((enlist_keeps p.first.name (enlist ns p.first) p.second (enlist_has ns p.first)).1, enlist_has (enlist ns p.first) p.second)
-listed_holds ns (not p t) = listed_holds ns t
+listed_holds ns (no p t) = listed_holds ns t
 listed_holds ns (and p t u) = both_hold ns (names_of t) (names_of u) t u (listed_holds ns t) (listed_holds (listed ns (names_of t)) u)
 listed_holds ns (or p t u) = both_hold ns (names_of t) (names_of u) t u (listed_holds ns t) (listed_holds (listed ns (names_of t)) u)
 listed_holds ns (then p t u) = both_hold ns (names_of t) (names_of u) t u (listed_holds ns t) (listed_holds (listed ns (names_of t)) u)
@@ -128,21 +117,10 @@ listed_holds ns (then p t u) = both_hold ns (names_of t) (names_of u) t u (liste
 -- numbering keeps the shape
 pub top_numbered : (ns : List Named) (k : ℕ) (t : Phrase) → top k (numbered ns t) ≡ top k t
 top_numbered ns k (leaf p) = refl
-top_numbered ns k (not p t) = ap suc (top_numbered ns k t)
+top_numbered ns k (no p t) = ap suc (top_numbered ns k t)
 top_numbered ns k (and p t u) = ap suc (ap (λ i. top (suc i) (numbered ns u)) (top_numbered ns k t) ∙ top_numbered ns (suc (top k t)) u)
 top_numbered ns k (or p t u) = ap suc (ap (λ i. top (suc i) (numbered ns u)) (top_numbered ns k t) ∙ top_numbered ns (suc (top k t)) u)
 top_numbered ns k (then p t u) = ap suc (ap (λ i. top (suc i) (numbered ns u)) (top_numbered ns k t) ∙ top_numbered ns (suc (top k t)) u)
-
--- the search for a name, one place further
-module _ (n : Name) (ns : List Named) (i : ℕ) (h : i < length ns) where
-  pub find_hit : same (get_or ns i nobody).name.bytes n.bytes ≡ true → find n (drop i ns) ≡ zero
-  find_hit e = ap (find n) (drop_more ns i nobody h) ∙ cond-true _ _ _ e
-
-  pub find_miss : same (get_or ns i nobody).name.bytes n.bytes ≡ false → find n (drop i ns) ≡ suc (find n (drop (i + 1) ns))
-  find_miss e = ap (find n) (drop_more ns i nobody h) ∙ cond-false _ _ _ e
-
-pub find_end : (n : Name) (ns : List Named) (i : ℕ) → length ns ≤ i → find n (drop i ns) ≡ zero
-find_end n ns i h = ap (find n) (drop_all i ns h)
 
 -- a list in which each name stands once stays one
 enlist_once : (ns : List Named) (x : Named) → EachOnce ns → EachOnce (enlist ns x)

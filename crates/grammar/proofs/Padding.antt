@@ -37,7 +37,9 @@ pad_same (suc k) (x ∷ n) (y ∷ m) h l p q e = ap₂ (λ a s. a ∷ s) (heads 
 
 -- two stored names have the same bytes exactly when the decoded names are equal
 pub same_stored : (a b : Name) (n m : List ℕ) → Decoded n → Decoded m → a ≡ stored n → b ≡ stored m → (same a.bytes b.bytes ≡ true) ↔ (n ≡ m)
-same_stored a b n m d f e g = (
-  (λ s. pad_same 12 n m d.few f.few d.no_zero f.no_zero (sym (ap (λ (x : Name). x.bytes) e) ∙ same_is a.bytes b.bytes s ∙ ap (λ (x : Name). x.bytes) g)),
-  (λ s. ap (λ (x : Name). same x.bytes b.bytes) e ∙ ap (λ (x : Name). same (pad 12 n) x.bytes) g ∙ ap (λ (x : List ℕ). same (pad 12 x) (pad 12 m)) s ∙ same_self (pad 12 m)),
-)
+same_stored a b n m d f e g =
+    let p : a.bytes ≡ pad 12 n = ap (λ (x : Name). x.bytes) e in
+    let q : b.bytes ≡ pad 12 m = ap (λ (x : Name). x.bytes) g in (
+      (λ s. pad_same 12 n m d.few f.few d.no_zero f.no_zero (sym p ∙ same_is a.bytes b.bytes s ∙ q)),
+      (λ s. ap (λ x. same x b.bytes) (p ∙ ap (pad 12) s ∙ sym q) ∙ same_self b.bytes),
+    )

@@ -1,8 +1,10 @@
 -- What a phrase so far is, by the token behind it.
-use Rattle.std.proofs.Common.{◌≡◌, ℕ, suc, ◌+◌, true, List, [], ◌∷◌, ◌++◌, sym, refl, arith}
+use Rattle.std.proofs.Common.{◌≡◌, ℕ, suc, ◌+◌, true, List, [], ◌∷◌, ◌++◌, Some, None, refl, arith}
 use mathlib.Core.Bool.{false≢true}
 use Rattle.grammar.specs.declared.token.Token.{Token}
 use Rattle.grammar.specs.declared.token.Token.TheVariants.{Open, Close, Name, With, Not, And, Or, Then}
+use Rattle.grammar.specs.declared.climb.Connective.{Connective}
+use Rattle.grammar.specs.declared.climb.Connective.TheVariants as op
 use Rattle.grammar.specs.declared.level.Level.{Level}
 use Rattle.grammar.specs.declared.level.Level.TheVariants.{Rule, Disjunction, Conjunction, Part}
 use Rattle.formula.specs.Tree.{and, or, then}
@@ -11,7 +13,10 @@ use Rattle.grammar.specs.declared.name.Named.{Named}
 use Rattle.grammar.specs.Reads.{Reads, pair_read, not_read, parens_read, part_read, and_read, conjunction_read, or_read, disjunction_read, then_read}
 use Rattle.formula.specs.Table.{top, post}
 use Rattle.grammar.specs.Words.{words}
-use Rattle.grammar.specs.Climbing.{over_part, over_joint, over_choice, continues, right_level, join_node, Stops}
+use Rattle.grammar.specs.Climbing.{over_part, over_joint, over_choice, continues, token_of, right_level, join_node, Stops}
+
+pub some_none : {X : Type 0} {x : X} → Some x ≡ None → ⊥
+some_none e = cc
 
 abbrev pub Head : List Token → Token → List Token → Phrase → Type 0
 Head ts Open m a = Unit {0}
@@ -46,7 +51,7 @@ ready_choice (Close ∷ m) s x = tt
 ready_choice (Name b ∷ m) s x = tt
 ready_choice (With p ∷ m) s x = tt
 ready_choice (Not p ∷ m) s x = tt
-ready_choice (And p ∷ m) s x = absurd (false≢true (sym s))
+ready_choice (And p ∷ m) s x = absurd (some_none s)
 ready_choice (Or p ∷ m) s x = x
 ready_choice (Then p ∷ m) s x = x
 
@@ -57,9 +62,9 @@ ready_rule ts a (Close ∷ m) s = tt
 ready_rule ts a (Name b ∷ m) s = tt
 ready_rule ts a (With p ∷ m) s = tt
 ready_rule ts a (Not p ∷ m) s = tt
-ready_rule ts a (And p ∷ m) s = absurd (false≢true (sym s))
-ready_rule ts a (Or p ∷ m) s = absurd (false≢true (sym s))
-ready_rule ts a (Then p ∷ m) s = absurd (false≢true (sym s))
+ready_rule ts a (And p ∷ m) s = absurd (some_none s)
+ready_rule ts a (Or p ∷ m) s = absurd (some_none s)
+ready_rule ts a (Then p ∷ m) s = absurd (some_none s)
 
 pub from_part : {ts r : List Token} {t : Phrase} (l : Level) → Reads Part ts r t → Reads l ts r t
 from_part Rule x = disjunction_read (conjunction_read (part_read x))
@@ -85,46 +90,31 @@ from_rule Disjunction e x = absurd (false≢true e)
 from_rule Conjunction e x = absurd (false≢true e)
 from_rule Part e x = absurd (false≢true e)
 
-abbrev pub join : Token → Phrase → Phrase → Phrase
-join Open a b = a
-join Close a b = a
-join (Name n) a b = a
-join (With p) a b = a
-join (Not p) a b = a
-join (And p) a b = and p a b
-join (Or p) a b = or p a b
-join (Then p) a b = then p a b
+abbrev pub join : Connective → Phrase → Phrase → Phrase
+join (op.And p) a b = and p a b
+join (op.Or p) a b = or p a b
+join (op.Then p) a b = then p a b
 
 -- a word, its left side and its right side
-pub joins : {m : List Token} {b : Phrase} (l : Level) (ts : List Token) (a : Phrase) (k : Token) (r : List Token) → continues k l ≡ true
-    → Head ts k m a → Reads (right_level k) m r b → Stops (right_level k) r
-    → Reads l ts r (join k a b) × Ready ts r (join k a b)
-joins l ts a Open r e h x s = absurd (false≢true e)
-joins l ts a Close r e h x s = absurd (false≢true e)
-joins l ts a (Name n) r e h x s = absurd (false≢true e)
-joins l ts a (With p) r e h x s = absurd (false≢true e)
-joins l ts a (Not p) r e h x s = absurd (false≢true e)
-joins l ts a (And p) r e h x s = (from_joint l e (and_read h x), ready_joint r (and_read h x))
-joins l ts a (Or p) r e h x s = (from_choice l e (or_read h x), ready_choice r s (or_read h x))
-joins {b = b} l ts a (Then p) r e h x s = (from_rule l e (then_read h x), ready_rule ts (then p a b) r s)
+pub joins : {m : List Token} {b : Phrase} (l : Level) (ts : List Token) (a : Phrase) (j : Connective) (r : List Token) → continues j l ≡ true
+    → Head ts (token_of j) m a → Reads (right_level j) m r b → Stops (right_level j) r
+    → Reads l ts r (join j a b) × Ready ts r (join j a b)
+joins l ts a (op.And p) r e h x s = (from_joint l e (and_read h x), ready_joint r (and_read h x))
+joins l ts a (op.Or p) r e h x s = (from_choice l e (or_read h x), ready_choice r s (or_read h x))
+joins {b = b} l ts a (op.Then p) r e h x s = (from_rule l e (then_read h x), ready_rule ts (then p a b) r s)
 
 -- the node of a word, behind those of its parts; and its names
-pub record Shape (ns : List Named) (k : Token) (n : ℕ) (a b : Phrase) : Type 0 where
-  pub index : top n (join k a b) ≡ suc (top (suc (top n a)) b)
-  pub names : names_of (join k a b) ≡ names_of a ++ names_of b
-  pub nodes : post n (numbered ns (join k a b))
+pub record Shape (ns : List Named) (j : Connective) (n : ℕ) (a b : Phrase) : Type 0 where
+  pub index : top n (join j a b) ≡ suc (top (suc (top n a)) b)
+  pub names : names_of (join j a b) ≡ names_of a ++ names_of b
+  pub nodes : post n (numbered ns (join j a b))
       ≡ post n (numbered ns a) ++ (post (suc (top n (numbered ns a))) (numbered ns b)
-      ++ join_node k (top n (numbered ns a)) (top (suc (top n (numbered ns a))) (numbered ns b)) ∷ [])
+      ++ join_node j (top n (numbered ns a)) (top (suc (top n (numbered ns a))) (numbered ns b)) ∷ [])
 
-pub shape : (ns : List Named) (l : Level) (k : Token) → continues k l ≡ true → (n : ℕ) (a b : Phrase) → Shape ns k n a b
-shape ns l Open e n a b = absurd (false≢true e)
-shape ns l Close e n a b = absurd (false≢true e)
-shape ns l (Name c) e n a b = absurd (false≢true e)
-shape ns l (With p) e n a b = absurd (false≢true e)
-shape ns l (Not p) e n a b = absurd (false≢true e)
-shape ns l (And p) e n a b = record { index = refl; names = refl; nodes = refl }
-shape ns l (Or p) e n a b = record { index = refl; names = refl; nodes = refl }
-shape ns l (Then p) e n a b = record { index = refl; names = refl; nodes = refl }
+pub shape : (ns : List Named) (j : Connective) (n : ℕ) (a b : Phrase) → Shape ns j n a b
+shape ns (op.And p) n a b = record { index = refl; names = refl; nodes = refl }
+shape ns (op.Or p) n a b = record { index = refl; names = refl; nodes = refl }
+shape ns (op.Then p) n a b = record { index = refl; names = refl; nodes = refl }
 
 -- each word is one node
 pub counted : {l : Level} {ts r : List Token} {t : Phrase} → Reads l ts r t → (n : ℕ) → suc (top n t) + words r ≡ n + words ts

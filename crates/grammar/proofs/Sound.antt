@@ -1,5 +1,5 @@
 -- The automaton and the parser go in step, and what they have taken is derived.
-use Rattle.std.proofs.Common.{◌≡◌, ℕ, zero, suc, Bool, true, false, List, [], ◌∷◌, Some, None, Option, subst, arith}
+use Rattle.std.proofs.Common.{◌≡◌, ℕ, zero, suc, Bool, true, false, List, [], ◌∷◌, Some, None, Option, subst}
 use mathlib.Core.Bool.{false≢true}
 use Rattle.grammar.specs.Laws.{ParsedExactly, AcceptedExactly}
 use Rattle.grammar.specs.declared.token.Token.{Token}
@@ -52,15 +52,15 @@ data Pend (all : List Token) : Stack → List Token → Type 0 where
   at_then : {p : ℕ} {s : Stack} {ts r : List Token} {a : Phrase} → Chooses s → Pend all s ts → Reads Disjunction ts (Then p ∷ r) a → Pend all (under_then p a s) r
 
 -- the automaton's state and the parser's, before the tokens r
-data At (all : List Token) : State → Spot → List Token → Type 0 where
-  wants : {s : Stack} {r : List Token} → Pend all s r → At all (stage.WantPart (depth s)) (want s) r
-  names : {s : Stack} {r : List Token} {a : Named} → Pend all s (Name a ∷ r) → At all (stage.HaveName (depth s)) (named a s) r
-  seconds : {s : Stack} {r : List Token} {p : ℕ} {a : Named} → Pend all s (Name a ∷ With p ∷ r) → At all (stage.WantName (depth s)) (second a p s) r
-  haves : {s : Stack} {ts r : List Token} {t : Phrase} → Joins s → Pend all s ts → Reads Conjunction ts r t → At all (stage.HavePart (depth s)) (have t s) r
-  losts : {r : List Token} → At all stage.Lost lost r
+data At (all : List Token) : Option State → Spot → List Token → Type 0 where
+  wants : {s : Stack} {r : List Token} → Pend all s r → At all (Some (stage.WantPart (depth s))) (want s) r
+  names : {s : Stack} {r : List Token} {a : Named} → Pend all s (Name a ∷ r) → At all (Some (stage.HaveName (depth s))) (named a s) r
+  seconds : {s : Stack} {r : List Token} {p : ℕ} {a : Named} → Pend all s (Name a ∷ With p ∷ r) → At all (Some (stage.WantName (depth s))) (second a p s) r
+  haves : {s : Stack} {ts r : List Token} {t : Phrase} → Joins s → Pend all s ts → Reads Conjunction ts r t → At all (Some (stage.HavePart (depth s))) (have t s) r
+  losts : {r : List Token} → At all None lost r
 
 part_ok : {all : List Token} {s : Stack} {ts r : List Token} {t : Phrase} → Pend all s ts → Reads Part ts r t
-    → At all (stage.HavePart (depth s)) (part_done t s) r
+    → At all (Some (stage.HavePart (depth s))) (part_done t s) r
 part_ok at_base x = haves tt at_base (part_read x)
 part_ok (at_open p) x = haves tt (at_open p) (part_read x)
 part_ok (at_not p) x = part_ok p (not_read x)
@@ -87,7 +87,7 @@ all_close_ok (at_or c p y) h x = close_ok p c (disjunction_read (or_read y x))
 all_close_ok (at_then c p y) h x = close_ok (at_then c p y) tt (disjunction_read (conjunction_read x))
 
 or_ok : {p : ℕ} {all : List Token} {s : Stack} {ts r : List Token} {t : Phrase} → Pend all s ts → Joins s → Reads Conjunction ts (Or p ∷ r) t
-    → At all (stage.WantPart (depth s)) (or_next p (conjunction_done t s)) r
+    → At all (Some (stage.WantPart (depth s))) (or_next p (conjunction_done t s)) r
 or_ok at_base h x = wants (at_or tt at_base (conjunction_read x))
 or_ok (at_open p) h x = wants (at_or tt (at_open p) (conjunction_read x))
 or_ok (at_not p) h x = absurd h
@@ -96,7 +96,7 @@ or_ok (at_or c p y) h x = wants (at_or c p (or_read y x))
 or_ok (at_then c p y) h x = wants (at_or tt (at_then c p y) (conjunction_read x))
 
 then_ok : {p : ℕ} {all : List Token} {s : Stack} {ts r : List Token} {t : Phrase} → Pend all s ts → Joins s → Reads Conjunction ts (Then p ∷ r) t
-    → At all (stage.WantPart (depth s)) (then_next p (conjunction_done t s)) r
+    → At all (Some (stage.WantPart (depth s))) (then_next p (conjunction_done t s)) r
 then_ok at_base h x = wants (at_then tt at_base (conjunction_read x))
 then_ok (at_open p) h x = wants (at_then tt (at_open p) (conjunction_read x))
 then_ok (at_not p) h x = absurd h
@@ -145,14 +145,14 @@ from_have (And w) j p x = wants (at_and j p x)
 from_have (Or w) j p x = or_ok p j x
 from_have (Then w) j p x = then_ok p j x
 
-step_ok : {all r : List Token} {q : State} {p : Spot} (k : Token) → At all q p (k ∷ r) → At all (auto.step q k) (feed p k) r
+step_ok : {all r : List Token} {q : Option State} {p : Spot} (k : Token) → At all q p (k ∷ r) → At all (auto.advance q k) (feed p k) r
 step_ok k (wants p) = from_want k p
 step_ok k (names p) = from_named k p
 step_ok k (seconds p) = from_second k p
 step_ok k (haves j p x) = from_have k j p x
 step_ok k losts = losts
 
-run_ok : {all : List Token} (r : List Token) {q : State} {p : Spot} → At all q p r → At all (auto.run q r) (feed_all p r) []
+run_ok : {all : List Token} (r : List Token) {q : Option State} {p : Spot} → At all q p r → At all (auto.run q r) (feed_all p r) []
 run_ok [] h = h
 run_ok (k ∷ r) h = run_ok r (step_ok k h)
 
@@ -181,7 +181,7 @@ end_joint (at_and j p y) h x = absurd h
 end_joint (at_or c p y) h x = end_choice p c (disjunction_read (or_read y x))
 end_joint (at_then c p y) h x = end_choice (at_then c p y) tt (disjunction_read (conjunction_read x))
 
-end_ok : {all : List Token} {q : State} {p : Spot} → At all q p [] → Outcome all (auto.ended q) (finish p)
+end_ok : {all : List Token} {q : Option State} {p : Spot} → At all q p [] → Outcome all (auto.complete q) (finish p)
 end_ok (wants p) = tt
 end_ok (names p) = tt
 end_ok (seconds p) = tt
@@ -191,14 +191,11 @@ end_ok losts = tt
 outcome : (ts : List Token) → Outcome ts (auto.accepted ts) (parse ts)
 outcome ts = end_ok (run_ok ts (wants at_base))
 
-none_some : {t : Phrase} → None ≡ Some t → ⊥
-none_some e = let z : ◌≡◌ {A = ℕ} 0 1 = cc in omega arith
-
 by_tree : (all : List Token) (b : Bool) (o : Option Phrase) (t : Phrase) → Outcome all b o → o ≡ Some t → Reads Rule all [] t
 by_tree all true (Some u) t h e = subst (λ v. Reads Rule all [] v) (let f : u ≡ t = cc in f) h
 by_tree all true None t h e = absurd h
 by_tree all false (Some u) t h e = absurd h
-by_tree all false None t h e = absurd (none_some e)
+by_tree all false None t h e = absurd (let z : ⊥ = cc in z)
 
 by_test : (all : List Token) (b : Bool) (o : Option Phrase) → Outcome all b o → b ≡ true → (t : Phrase) × Reads Rule all [] t
 by_test all true (Some u) h e = (u, h)

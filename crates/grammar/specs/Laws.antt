@@ -1,11 +1,10 @@
 -- What is proved of the grammar, the recogniser and the parser. Rests on Grammar, Automaton and Parser.
-use Rattle.std.specs.Prelude.{◌≡◌, true, ◌≢◌, ◌↔◌, List, [], ◌∷◌, ◌++◌, Some}
+use Rattle.std.specs.Prelude.{◌≡◌, true, ◌≢◌, ◌↔◌, List, [], ◌∷◌, ◌++◌, Some, None}
 use Rattle.grammar.specs.declared.token.Token.{Token}
 use Rattle.grammar.specs.declared.level.Level.TheVariants.{Rule}
 use Rattle.grammar.specs.Names.{Phrase}
 use Rattle.grammar.specs.Grammar.{Is}
-use Rattle.grammar.specs.declared.state.State.TheVariants.{WantPart, Lost}
-use Rattle.grammar.specs.Automaton.{run, accepted}
+use Rattle.grammar.specs.Automaton.{run, start, accepted}
 use Rattle.grammar.specs.Parser.{parse}
 
 -- a token list has at most one tree
@@ -19,7 +18,7 @@ AcceptedExactly = (ts : List Token) → (accepted ts ≡ true) ↔ ((t : Phrase)
 -- The tokens that the automaton has taken go on to a rule; with a token that it refuses, or with one that follows a refused one, none does.
 abbrev pub ViablePrefix : Type 0
 ViablePrefix =
-    (ts : List Token) (k : Token) → run (WantPart 0) ts ≢ Lost → run (WantPart 0) (ts ++ k ∷ []) ≡ Lost
+    (ts : List Token) (k : Token) → run start ts ≢ None → run start (ts ++ k ∷ []) ≡ None
     → ((more : List Token) × (t : Phrase) × Is Rule (ts ++ more) t)
     × ((more : List Token) (t : Phrase) → Is Rule (ts ++ k ∷ more) t → ⊥)
 

@@ -1,6 +1,7 @@
 -- Names as they are stored, and numbered by where they first stand. Rests on Tree of crate formula.
-use Rattle.std.specs.Prelude.{◌≡◌, ℕ, zero, suc, ◌<◌, ◌≤◌, Bool, true, false, cond, List, [], ◌∷◌, ◌++◌, length, ◌==◌, nat_lt, slice_index_or}
-use Rattle.std.specs.List.{AllByRecursion}
+use Rattle.std.specs.Prelude.{◌≡◌, ℕ, zero, suc, ◌<◌, ◌≤◌, Bool, cond, List, [], ◌∷◌, ◌++◌, length, nat_lt, slice_index_or}
+use Rattle.std.specs.List.{AllByRecursion, position_or_len}
+use Rattle.std.specs.Str.{bytes_eq}
 use Rattle.formula.specs.declared.node.Pair.{Pair}
 use Rattle.formula.specs.Tree.{Tree, leaf, not, and, or, then, map_tree, map_pair}
 use Rattle.grammar.specs.declared.name.Name.{Name}
@@ -18,15 +19,15 @@ stored n = record { bytes = pad 12 n }
 
 -- whether two texts have the same bytes
 abbrev pub same : List ℕ → List ℕ → Bool
-same [] [] = true
-same [] (c ∷ cs) = false
-same (b ∷ bs) [] = false
-same (b ∷ bs) (c ∷ cs) = cond (b == c) (same bs cs) false
+same = bytes_eq
+
+-- whether this is the name of one that stands in a line
+abbrev pub is_named : Name → Named → Bool
+is_named n x = same x.name.bytes n.bytes
 
 -- the number of a name in a list, from 0: the first place where it stands, or the list's length
 abbrev pub find : Name → List Named → ℕ
-find n [] = zero
-find n (x ∷ xs) = cond (same x.name.bytes n.bytes) zero (suc (find n xs))
+find n xs = position_or_len (is_named n) xs
 
 -- a name is added at the end where it does not stand yet
 abbrev pub enlist : List Named → Named → List Named

@@ -1,19 +1,22 @@
 -- The words and the names of a token list. Rests on nothing.
-use Rattle.std.specs.Prelude.{ℕ, suc, ◌+◌, ◌<◌, ◌≤◌, List, [], ◌∷◌}
+use Rattle.std.specs.Prelude.{ℕ, suc, ◌+◌, ◌<◌, ◌≤◌, Bool, true, false, cond, List, [], ◌∷◌}
 use Rattle.grammar.specs.declared.name.Named.{Named}
 use Rattle.grammar.specs.declared.token.Token.{Token}
 use Rattle.grammar.specs.declared.token.Token.TheVariants.{Open, Close, Name, With, Not, And, Or, Then}
 
 -- parentheses and names are no words
+abbrev pub is_word : Token → Bool
+is_word Open = false
+is_word Close = false
+is_word (Name a) = false
+is_word (With p) = true
+is_word (Not p) = true
+is_word (And p) = true
+is_word (Or p) = true
+is_word (Then p) = true
+
 abbrev pub weight : Token → ℕ
-weight Open = 0
-weight Close = 0
-weight (Name a) = 0
-weight (With p) = 1
-weight (Not p) = 1
-weight (And p) = 1
-weight (Or p) = 1
-weight (Then p) = 1
+weight k = cond (is_word k) 1 0
 
 -- how many words there are
 abbrev pub words : List Token → ℕ

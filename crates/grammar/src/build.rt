@@ -25,7 +25,7 @@ pub fn build(tokens: &[Token]) -> Line
     ensures prefix { ViablePrefix }
 {
     let mut draft = Draft::new();
-    let _ = climb(tokens, 0, Level::Rule, &mut draft);
+    let _ = climb(tokens, Level::Rule, &mut draft);
     let Draft { nodes, names } = draft;
     Line {
         formula: Formula::new(nodes),

@@ -1,5 +1,5 @@
-/// How loosely a phrase is bound: a rule is made of disjunctions, a disjunction of conjunctions, a conjunction of parts.
-#[derive(Clone, Copy)]
+/// How tightly a phrase is bound: a rule is made of disjunctions, a disjunction of conjunctions, a conjunction of parts.
+#[derive(Clone, Copy, PartialEq, Eq, PartialOrd, Ord)]
 pub enum Level {
     Rule,
     Disjunction,

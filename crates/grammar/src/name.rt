@@ -2,7 +2,7 @@ ghost use Rattle.std.specs.Prelude.{◌≡◌, ℕ, true, ◌↔◌, List};
 ghost use Rattle.grammar.specs.Names.{same, stored, Decoded};
 
 /// A name as it is stored: its decoded bytes, and zeros up to twelve.
-#[derive(Clone, Copy)]
+#[derive(Clone, Copy, PartialEq, Eq)]
 pub struct Name {
     bytes: [u8; 12],
 }
@@ -12,21 +12,6 @@ pub struct Name {
 pub struct Named {
     pub place: usize,
     pub name: Name,
-}
-
-/// Whether two texts have the same bytes.
-pub fn same_bytes(one: &[u8], other: &[u8]) -> bool
-    ensures { result ≡ same one.now other.now }
-{
-    if one.len() != other.len() {
-        return false;
-    }
-    for i in 0..one.len() {
-        if one[i] != other[i] {
-            return false;
-        }
-    }
-    true
 }
 
 impl Name {
@@ -45,10 +30,11 @@ impl Name {
     }
 
     /// Whether it is the same name: the one test of names. It says so exactly when the decoded bytes are equal.
+    #[tactic(auto, using(crate::proofs::Padding::same_stored))]
     pub fn is(&self, other: &Name) -> bool
         ensures value { result ≡ same self.now.bytes other.now.bytes }
         ensures decoded { (n m : List ℕ) → Decoded n → Decoded m → self.now ≡ stored n → other.now ≡ stored m → (result ≡ true) ↔ (n ≡ m) }
     {
-        same_bytes(self.bytes(), other.bytes())
+        self == other
     }
 }

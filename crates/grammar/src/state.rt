@@ -10,27 +10,25 @@ pub enum State {
     HaveName(usize),
     WantName(usize),
     HavePart(usize),
-    /// A token stood where no rule has it.
-    Lost,
 }
 
 impl State {
-    /// The state after one more token.
-    pub fn after(self, token: Token) -> State
+    /// The state after one more token, where a rule has that token there.
+    pub fn after(self, token: Token) -> Option<State>
         requires shallow { depth self < 2 ^ 32 }
         ensures { result ≡ step self token }
     {
         match (self, token) {
-            (State::WantPart(d), Token::Open) => State::WantPart(d + 1),
-            (State::WantPart(d), Token::Not(_)) => State::WantPart(d),
-            (State::WantPart(d), Token::Name(_)) => State::HaveName(d),
-            (State::HaveName(d), Token::With(_)) => State::WantName(d),
-            (State::WantName(d), Token::Name(_)) => State::HavePart(d),
-            (State::HavePart(d), Token::And(_) | Token::Or(_) | Token::Then(_)) => State::WantPart(
-                d,
-            ),
-            (State::HavePart(d), Token::Close) if d > 0 => State::HavePart(d - 1),
-            _ => State::Lost,
+            (State::WantPart(d), Token::Open) => Some(State::WantPart(d + 1)),
+            (State::WantPart(d), Token::Not(_)) => Some(State::WantPart(d)),
+            (State::WantPart(d), Token::Name(_)) => Some(State::HaveName(d)),
+            (State::HaveName(d), Token::With(_)) => Some(State::WantName(d)),
+            (State::WantName(d), Token::Name(_)) => Some(State::HavePart(d)),
+            (State::HavePart(d), Token::And(_) | Token::Or(_) | Token::Then(_)) => {
+                Some(State::WantPart(d))
+            }
+            (State::HavePart(d), Token::Close) if d > 0 => Some(State::HavePart(d - 1)),
+            _ => None,
         }
     }
 

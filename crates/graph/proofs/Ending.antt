@@ -1,4 +1,5 @@
 -- The rounds end at the first that marks nothing.
+use Rattle.std.proofs.lemmas.Bool.Decides.{nat_tests}
 use Rattle.std.proofs.Common.{◌≡◌, ℕ, zero, suc, ◌+◌, ◌-◌, ◌*◌, ◌<◌, ◌≤◌, Bool, true, ◌⊎◌, List, sym, refl, ap, ◌∙◌, subst, inl, inr, ⊎_elim, arith}
 use Rattle.std.proofs.lemmas.Bool.{cases_eq, cases_lt}
 use Rattle.formula.specs.declared.node.Pair.{Pair}
@@ -11,14 +12,13 @@ use Rattle.graph.specs.RoundLaws.{RoundsEnd}
 use Rattle.graph.specs.Rounds.{reason, round, rounds, marked}
 use Rattle.graph.proofs.LivePairs.{of_pairs}
 use Rattle.graph.proofs.Marking.{same_marks, round_cases, round_grows, marks_live, reason_pairs}
-use Rattle.graph.proofs.Members.{alike}
 use Rattle.graph.proofs.PairTests.{turned, by_pairs}
 use Rattle.graph.proofs.Weights.{weight, weight_most, weight_le, no_heavier}
 
 module _ (n : ℕ) (fs : List (Tree (Pair ℕ))) where
   -- a round that marks nothing changes nothing
   unchanged : (m : Marks) → Settled n fs m → round n fs m ≡ m
-  unchanged m h = same_marks (round n fs m) m (λ s a b. alike (idle (round n fs m) s a b) (idle m s a b) (h s a b) (round_grows n fs m s a b))
+  unchanged m h = same_marks (round n fs m) m (λ s a b. grind (arith, nat_tests, h s a b, round_grows n fs m s a b))
 
   still : (d k j : ℕ) → d + k ≡ j → Settled n fs (rounds k n fs) → rounds j n fs ≡ rounds k n fs
   still zero k j e h = let q : k ≡ j = omega arith in ap (λ z. rounds z n fs) (sym q)

@@ -1,13 +1,13 @@
 -- What filling makes of the dashed and solid pairs, for every picker.
-use Rattle.std.proofs.Common.{◌≡◌, ℕ, zero, suc, ◌≤◌, Bool, true, false, eqb, ◌⊎◌, List, [], ◌∷◌, length, sym, refl, subst, inl, inr, ⊎_elim, arith}
-use Rattle.std.proofs.lemmas.Bool.{both_ways, false≢true, cases_eq, eq-eqb, or_left, or_right}
+use Rattle.std.proofs.lemmas.Bool.Decides.{nat_tests}
+use Rattle.std.proofs.Common.{◌≡◌, ℕ, zero, suc, ◌≤◌, Bool, true, false, ◌⊎◌, List, [], ◌∷◌, length, refl, inl, inr, ⊎_elim, arith}
+use Rattle.std.proofs.lemmas.Bool.{false≢true}
 use Rattle.graph.specs.Filled.{Filled, Joins, NamesStanding}
 use Rattle.graph.specs.Filling.{closed, Pick, Stage, stages, named}
 use Rattle.graph.specs.Lots.{Lot, has, without, Simple}
-use Rattle.graph.specs.Members.{has_cases}
 use Rattle.graph.specs.Pairs.{OfPairs}
 use Rattle.graph.proofs.Closing.{closed_more, closed_joins, closed_cases, closed_off, closed_pairs}
-use Rattle.graph.proofs.Members.{never, not_without, has_without, without_has, without_lt}
+use Rattle.graph.proofs.Members.{absent, not_without, has_without, without_has, without_lt}
 
 -- a stage, by its parts
 abbrev pub at : List ℕ → (ℕ → ℕ → Bool) → Stage
@@ -20,7 +20,8 @@ module _ (pick : Pick) where
   stages_more (suc k) [] e x y h = stages_more k [] e x y h
   stages_more (suc k) (s ∷ rest) e x y h =
       let v : ℕ = pick (s ∷ rest) e in
-      stages_more k (without v (s ∷ rest)) (closed v (without v (s ∷ rest)) e) x y (closed_more v (without v (s ∷ rest)) e x y h)
+      let st : List ℕ = without v (s ∷ rest) in
+      stages_more k st (closed v st e) x y (closed_more v st e x y h)
 
   -- a lot that does not stand gets no link any more
   pub stages_off : (k : ℕ) (st : List ℕ) (e : ℕ → ℕ → Bool) (x y : ℕ) → has x st ≡ false → (stages k pick (at st e)).linked x y ≡ true → e x y ≡ true
@@ -28,8 +29,9 @@ module _ (pick : Pick) where
   stages_off (suc k) [] e x y o h = stages_off k [] e x y o h
   stages_off (suc k) (s ∷ rest) e x y o h =
       let v : ℕ = pick (s ∷ rest) e in
-      let o' : has x (without v (s ∷ rest)) ≡ false = never (has x (without v (s ∷ rest))) (λ p. both_ways (has x (s ∷ rest)) o (without_has v x (s ∷ rest) p)) in
-      closed_off v (without v (s ∷ rest)) e x y o' (stages_off k (without v (s ∷ rest)) (closed v (without v (s ∷ rest)) e) x y o' h)
+      let st : List ℕ = without v (s ∷ rest) in
+      let o' = absent v x (s ∷ rest) o in
+      closed_off v st e x y o' (stages_off k st (closed v st e) x y o' h)
 
   pub stages_pairs : (n k : ℕ) (st : List ℕ) (e : ℕ → ℕ → Bool) → ((z : ℕ) → has z st ≡ true → Lot n z) → OfPairs n e → OfPairs n (stages k pick (at st e)).linked
   stages_pairs n zero st e l o = o
@@ -48,10 +50,7 @@ module _ (pick : Pick) (names : NamesStanding pick) where
   named_stood (suc k) (s ∷ rest) e x h =
       let v : ℕ = pick (s ∷ rest) e in
       let st : List ℕ = without v (s ∷ rest) in
-      ⊎_elim
-      (λ p. subst (λ w. has w (s ∷ rest) ≡ true) (sym p) (names.stands s rest e))
-      (λ p. without_has v x (s ∷ rest) (named_stood k st (closed v st e) x p))
-      (has_cases v x (named k pick (at st (closed v st e))) h)
+      grind (arith, nat_tests, names.stands s rest e, without_has v x (s ∷ rest), named_stood k st (closed v st e) x)
 
   pub all_named : (k : ℕ) (st : List ℕ) (e : ℕ → ℕ → Bool) → length st ≤ k → (x : ℕ) → has x st ≡ true → has x (named k pick (at st e)) ≡ true
   all_named zero [] e l x h = absurd (false≢true h)
@@ -60,11 +59,8 @@ module _ (pick : Pick) (names : NamesStanding pick) where
   all_named (suc k) (s ∷ rest) e l x h =
       let v : ℕ = pick (s ∷ rest) e in
       let st : List ℕ = without v (s ∷ rest) in
-      let ns : List ℕ = named k pick (at st (closed v st e)) in
-      ⊎_elim
-      (λ p. or_left (eqb x v) (has x ns) (eq-eqb x v p))
-      (λ p. or_right (eqb x v) (has x ns) (all_named k st (closed v st e) (omega (arith, without_lt v (s ∷ rest) (names.stands s rest e))) x (has_without v x (s ∷ rest) p h)))
-      (cases_eq x v)
+      let shorter = without_lt v (s ∷ rest) (names.stands s rest e) in
+      grind (arith, nat_tests, has_without v x (s ∷ rest), all_named k st (closed v st e) (omega arith) x)
 
   pub named_once : (k : ℕ) (st : List ℕ) (e : ℕ → ℕ → Bool) → Simple (named k pick (at st e))
   named_once zero st e = tt
@@ -72,8 +68,7 @@ module _ (pick : Pick) (names : NamesStanding pick) where
   named_once (suc k) (s ∷ rest) e =
       let v : ℕ = pick (s ∷ rest) e in
       let st : List ℕ = without v (s ∷ rest) in
-      let ns : List ℕ = named k pick (at st (closed v st e)) in
-      (never (has v ns) (λ h. both_ways (has v st) (not_without v (s ∷ rest)) (named_stood k st (closed v st e) v h)), named_once k st (closed v st e))
+      (grind (arith, nat_tests, not_without v (s ∷ rest), named_stood k st (closed v st e) v), named_once k st (closed v st e))
 
   pub none_left : (k : ℕ) (st : List ℕ) (e : ℕ → ℕ → Bool) → length st ≤ k → (stages k pick (at st e)).standing ≡ []
   none_left zero [] e l = refl
@@ -92,13 +87,8 @@ module _ (pick : Pick) (names : NamesStanding pick) where
       let st : List ℕ = without v (s ∷ rest) in
       let c : ℕ → ℕ → Bool = closed v st e in
       let off : has v st ≡ false = not_without v (s ∷ rest) in (
-        λ x y mx my ne lx ly. stages_more pick k st c x y (closed_joins v st e x y (record {
-          stands_x = named_stood k st c x mx;
-          stands_y = named_stood k st c y my;
-          linked_x = closed_off v st e v x off (stages_off pick k st c v x off lx);
-          linked_y = closed_off v st e v y off (stages_off pick k st c v y off ly);
-          differ = ne;
-        })),
+        λ x y mx my ne lx ly. stages_more pick k st c x y (closed_joins v st e x y (named_stood k st c x mx) (named_stood k st c y my)
+            (closed_off v st e v x off (stages_off pick k st c v x off lx)) (closed_off v st e v y off (stages_off pick k st c v y off ly)) ne),
         filled k st c,
       )
 

@@ -17,8 +17,7 @@ pub mod Filling
 pub mod Links
 pub mod Picking
 pub mod Flags
-pub mod Choosing
-pub mod Degrees
+pub mod Surveying
 pub mod Sights
 pub mod Triangles
 pub mod LinkPaths

@@ -1,8 +1,9 @@
 -- The links of the formulas in force.
-use Rattle.std.proofs.Common.{◌≡◌, ℕ, zero, suc, ◌+◌, ◌≤◌, Bool, true, false, eqb, List, [], ◌∷◌, length, refl, ap, ◌∙◌, inl, inr, ⊎_elim, arith}
+use Rattle.std.proofs.lemmas.Bool.Decides.{nat_tests}
+use Rattle.std.proofs.Common.{not, ◌≡◌, ℕ, zero, suc, ◌+◌, ◌≤◌, Bool, true, false, eqb, List, [], ◌∷◌, length, refl, ap, ◌∙◌, arith}
 use Rattle.std.specs.List.{range_with_len}
 use Rattle.std.proofs.lemmas.List.FromFn.{length-range_with_len}
-use Rattle.std.proofs.lemmas.Bool.{cond_both, or_cases, or_left, or_right}
+use Rattle.std.proofs.lemmas.Bool.{cond_both, or_left, or_right}
 use Rattle.formula.specs.declared.node.Pair.{Pair}
 use Rattle.formula.specs.Tree.{Tree}
 use Rattle.graph.specs.Filled.{Agree, Rising}
@@ -36,10 +37,7 @@ links_are_filled n fs g pick names =
       pairs = stages_pairs pick n n (lots n) e (has_lots n) (start_pairs n fs g);
       dashes = λ x y h. stages_more pick n (lots n) e x y (or_left (dashed fs m x y) (solid fs m x y) h);
       solids = λ x y h. stages_more pick n (lots n) e x y (or_right (dashed fs m x y) (solid fs m x y) h);
-      origin = λ x y h. ⊎_elim
-          (λ p. ⊎_elim inl (λ q. inr (inl q)) (or_cases (dashed fs m x y) (solid fs m x y) p))
-          (λ j. inr (inr j))
-          (origin pick names n (lots n) e x y h);
+      origin = λ x y h. grind (arith, nat_tests, origin pick names n (lots n) e x y h);
     }
 
 -- pickers that agree where they are asked
@@ -60,8 +58,8 @@ links_by_picks n fs g pick other agree = ap (λ s. s.linked) (same_stages n pick
 -- the standing lots rise
 rising_without : (v : ℕ) (xs : List ℕ) → Rising xs → Rising (without v xs)
 rising_without v [] r = tt
-rising_without v (x ∷ xs) r = cond_both (eqb v x) (without v xs) (x ∷ without v xs) Rising
-    (λ p. rising_without v xs r.1) (λ p. (λ z h. r.0 z (without_has v z xs h), rising_without v xs r.1))
+rising_without v (x ∷ xs) r = cond_both (not (eqb v x)) (x ∷ without v xs) (without v xs) Rising
+    (λ p. (λ z h. r.0 z (without_has v z xs h), rising_without v xs r.1)) (λ p. rising_without v xs r.1)
 
 rising_counting : (n a : ℕ) → Rising (range_with_len a n)
 rising_counting zero a = tt

@@ -1,7 +1,8 @@
 -- What a round marks: tests of pairs, each mark with its reason.
-use Rattle.std.proofs.Common.{◌≡◌, ℕ, zero, suc, Bool, true, false, ◌||◌, ◌⊎◌, List, sym, refl, ◌∙◌, subst, ap₂, ⊎_elim, arith}
+use Rattle.std.proofs.lemmas.Bool.Decides.{nat_tests}
+use Rattle.std.proofs.Common.{◌≡◌, ℕ, zero, suc, Bool, true, false, ◌||◌, ◌⊎◌, List, sym, refl, subst, ⊎_elim, arith}
 use mathlib.Core.Path.{fun_ext}
-use Rattle.std.proofs.lemmas.Bool.{both_ways, cases_Bool, or_cases, or_left}
+use Rattle.std.proofs.lemmas.Bool.{both_ways, cases_Bool}
 use Rattle.formula.specs.declared.node.Pair.{Pair}
 use Rattle.formula.specs.Tree.{Tree}
 use Rattle.graph.specs.Ending.{MarkedBy}
@@ -14,15 +15,13 @@ use Rattle.graph.specs.RoundLaws.{ComponentsAreChains, RoundsShrink, MarksHaveRe
 use Rattle.graph.specs.Rounds.{reason, round, rounds}
 use Rattle.graph.proofs.Grown.{more_marks_fewer_live}
 use Rattle.graph.proofs.LivePairs.{of_pairs}
-use Rattle.graph.proofs.Members.{never}
 use Rattle.graph.proofs.PairTests.{either_pairs}
 use Rattle.graph.proofs.Reaching.{joined_is_chained}
 use Rattle.graph.proofs.Reasons.{reasons_are_tested, reason_turns}
 
 -- marks that say the same are the same
 pub same_marks : (m m' : Marks) → ((s : Bool) (a b : ℕ) → idle m s a b ≡ idle m' s a b) → m ≡ m'
-same_marks m m' h = ap₂ (λ (p q : ℕ → ℕ → Bool). record { positive = p; negative = q })
-    (fun_ext (λ a. fun_ext (λ b. h true a b))) (fun_ext (λ a. fun_ext (λ b. h false a b)))
+same_marks m m' h = grind (arith, nat_tests, h true, h false)
 
 pub not_marked : (s : Bool) (a b : ℕ) → idle unmarked s a b ≡ false
 not_marked true a b = refl
@@ -38,10 +37,10 @@ module _ (n : ℕ) (fs : List (Tree (Pair ℕ))) where
   round_is m false a b = refl
 
   pub round_cases : (m : Marks) (s : Bool) (a b : ℕ) → idle (round n fs m) s a b ≡ true → (idle m s a b ≡ true) ⊎ (why m s a b ≡ true)
-  round_cases m s a b h = or_cases (idle m s a b) (why m s a b) (sym (round_is m s a b) ∙ h)
+  round_cases m s a b h = grind (arith, nat_tests)
 
   pub round_grows : (m : Marks) → Grown m (round n fs m)
-  round_grows m s a b h = round_is m s a b ∙ or_left (idle m s a b) (why m s a b) h
+  round_grows m s a b h = grind (arith, nat_tests)
 
   module _ (g : of_lots n fs ≡ true) where
     pub reasoned : (m : Marks) (s : Bool) (a b : ℕ) → why m s a b ≡ true → Reason (dashed fs m) (solid fs m) s a b
@@ -56,16 +55,12 @@ module _ (n : ℕ) (fs : List (Tree (Pair ℕ))) where
     pub reason_pairs : (m : Marks) (s : Bool) → OfPairs n (why m s)
     reason_pairs m s = let live = of_pairs n fs g m s in record {
       turns = reason_turns n (dashed fs m) (solid fs m) (of_pairs n fs g m true) (of_pairs n fs g m false) s;
-      own = λ x. never (why m s x x) (λ h. both_ways (live_in m fs s x x) (live.own x) (marks_live m s x x h));
+      own = λ x. grind (arith, nat_tests, live.own x, marks_live m s x x);
       lots = λ x y h. live.lots x y (marks_live m s x y h);
     }
 
     pub marked_pairs : (k : ℕ) (s : Bool) → OfPairs n (idle (rounds k n fs) s)
-    marked_pairs zero s = record {
-      turns = λ x y. not_marked s x y ∙ sym (not_marked s y x);
-      own = λ x. not_marked s x x;
-      lots = λ x y h. absurd (both_ways (idle unmarked s x y) (not_marked s x y) h);
-    }
+    marked_pairs zero s = grind (arith, nat_tests, not_marked s)
     marked_pairs (suc k) s =
         let m : Marks = rounds k n fs in
         let e : ℕ → ℕ → Bool = λ a b. idle m s a b || why m s a b in
@@ -81,10 +76,7 @@ module _ (n : ℕ) (fs : List (Tree (Pair ℕ))) where
           before = omega arith;
           unset = e;
           set = h;
-          why = ⊎_elim
-              (λ i. absurd (both_ways (idle (rounds k n fs) s a b) e i))
-              (reasoned (rounds k n fs) s a b)
-              (round_cases (rounds k n fs) s a b h);
+          why = grind (arith, nat_tests, round_cases (rounds k n fs) s a b, reasoned (rounds k n fs) s a b);
         })
         (cases_Bool (idle (rounds k n fs) s a b))
 

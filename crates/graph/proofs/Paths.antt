@@ -1,16 +1,16 @@
 -- Paths: a chain contains one that passes no lot twice, and a path can be cut at any of its lots.
-use Rattle.std.proofs.Common.{◌≡◌, ℕ, ◌+◌, ◌<◌, Bool, true, false, eqb, ◌≢◌, List, [], ◌∷◌, length, sym, refl, subst, ⊎_elim, arith}
-use Rattle.std.proofs.lemmas.Bool.{both_ways, false≢true, cases_Bool, cases_eq, eq-eqb, or_left}
+use Rattle.std.proofs.lemmas.Bool.Decides.{nat_tests}
+use Rattle.std.proofs.Common.{◌≡◌, ℕ, ◌+◌, ◌<◌, Bool, true, ◌≢◌, List, [], ◌∷◌, length, sym, refl, subst, ⊎_elim, arith}
+use Rattle.std.proofs.lemmas.Bool.{false≢true, cases_Bool, cases_eq}
 use Rattle.graph.specs.ChainLaws.{ChainsHavePaths}
 use Rattle.graph.specs.Chains.{Chain, stop, step, Path}
 use Rattle.graph.specs.Lots.{has, Simple, Inside}
-use Rattle.graph.specs.Members.{has_first, has_next, has_cases}
-use Rattle.graph.proofs.Members.{never}
+use Rattle.graph.proofs.Members.{has_first, has_next, has_cases}
 
 -- a path that reaches y has y, unless it is empty
 pub ends : (e : ℕ → ℕ → Bool) (y x p : ℕ) (ps : List ℕ) → Path e y x (p ∷ ps) → has y (p ∷ ps) ≡ true
-ends e y x p [] r = or_left (eqb y p) false (eq-eqb y p (sym r.1))
-ends e y x p (q ∷ ps) r = has_next p y (q ∷ ps) (ends e y p q ps r.1)
+ends e y x p [] r = grind (arith, nat_tests)
+ends e y x p (q ∷ ps) r = grind (arith, nat_tests, ends e y p q ps r.1)
 
 -- the step before the end
 pub last_step : (e : ℕ → ℕ → Bool) (y x p : ℕ) (ps : List ℕ) → Path e y x (p ∷ ps) → p ≢ y → (z : ℕ) × (has z (p ∷ ps) ≡ true) × (z ≢ y) × (e z y ≡ true)
@@ -49,9 +49,9 @@ cut e y x z (p ∷ ps) r s h = ⊎_elim
       from = subst (λ w. Path e y w ps) (sym zp) r.1;
       front_simple = (refl, tt);
       rest_simple = subst (λ w. Simple (w ∷ ps)) (sym zp) s;
-      front_inside = λ w k. ⊎_elim (λ q. or_left (eqb w p) (has w ps) (eq-eqb w p q)) (λ q. absurd (false≢true q)) (has_cases p w [] k);
+      front_inside = λ w k. grind (arith, nat_tests);
       rest_inside = λ w k. has_next p w ps k;
-      apart = λ w k l. ⊎_elim (λ q. both_ways (has p ps) s.0 (subst (λ v. has v ps ≡ true) q l)) (λ q. false≢true q) (has_cases p w [] k);
+      apart = λ w k l. grind (arith, nat_tests);
       lengths = omega arith;
       some = omega arith;
     })
@@ -60,14 +60,11 @@ cut e y x z (p ∷ ps) r s h = ⊎_elim
       rest = c.rest;
       to = (r.0, c.to);
       from = c.from;
-      front_simple = (never (has p c.front) (λ t. both_ways (has p ps) s.0 (c.front_inside p t)), c.front_simple);
+      front_simple = (grind (arith, nat_tests, c.front_inside p), c.front_simple);
       rest_simple = c.rest_simple;
-      front_inside = λ w q. ⊎_elim (λ t. or_left (eqb w p) (has w ps) (eq-eqb w p t)) (λ t. has_next p w ps (c.front_inside w t)) (has_cases p w c.front q);
+      front_inside = λ w q. grind (arith, nat_tests, c.front_inside w);
       rest_inside = λ w q. has_next p w ps (c.rest_inside w q);
-      apart = λ w q l. ⊎_elim
-          (λ t. both_ways (has p ps) s.0 (c.rest_inside p (subst (λ v. has v c.rest ≡ true) t l)))
-          (λ t. c.apart w t l)
-          (has_cases p w c.front q);
+      apart = λ w q l. grind (arith, nat_tests, c.rest_inside p, c.apart w);
       lengths = let l = c.lengths in omega arith;
       some = omega arith;
     })

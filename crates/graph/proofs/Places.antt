@@ -1,9 +1,10 @@
 -- The places of pairs.
-use Rattle.std.proofs.Common.{◌≡◌, ℕ, zero, suc, ◌+◌, ◌-◌, ◌*◌, ◌/◌, ◌<◌, ◌≤◌, ◌++◌, length, get_or, sym, refl, ap, ◌∙◌, subst, ⊎_elim, mul_comm, mul-add, arith, lit<, length-append}
+use Rattle.std.proofs.lemmas.Bool.Decides.{nat_tests}
+use Rattle.std.proofs.Common.{◌≡◌, ℕ, zero, suc, ◌+◌, ◌-◌, ◌*◌, ◌/◌, ◌<◌, ◌≤◌, ◌++◌, length, get_or, sym, refl, ap, ◌∙◌, ⊎_elim, mul_comm, mul-add, arith, lit<, length-append}
 use Rattle.std.proofs.Math.Nat.{add-mul-div_right}
 use Rattle.std.proofs.lemmas.List.FromFn.{length-map-range_with_len, get_or-map-range_with_len}
 use Rattle.std.proofs.lemmas.List.{get_or_append_left, get_or-append-add}
-use Rattle.std.proofs.lemmas.Bool.{cases_eq, cases_lt, cases_order}
+use Rattle.std.proofs.lemmas.Bool.{cases_eq, cases_lt}
 use Rattle.graph.specs.PairLaws.{Places, PairsHavePlaces}
 use Rattle.graph.specs.Pairs.{IsPair, place, count_of_pairs, pairs, pairs_up_to}
 
@@ -19,19 +20,12 @@ count_more (suc j) =
     ∙ add-mul-div_right (suc j * j) (suc j) (lit< tt)
     ∙ ap (λ m. suc j * m / 2 + suc j) (sym b)
 
-count_far : (m d : ℕ) → count_of_pairs m ≤ count_of_pairs (d + m)
-count_far m zero = let e : zero + m ≡ m = omega arith in let f = ap count_of_pairs e in omega arith
-count_far m (suc d) = let e : suc d + m ≡ suc (d + m) = omega arith in let f = ap count_of_pairs e in omega (arith, count_far m d, count_more (d + m))
-
 pub count_mono : (m n : ℕ) → m ≤ n → count_of_pairs m ≤ count_of_pairs n
-count_mono m n h = let e : (n - m) + m ≡ n = omega arith in let f = ap count_of_pairs e in omega (arith, count_far m (n - m))
+count_mono m n h = grind (arith, nat_tests)
 
 -- the pairs with a higher lot come after those of the lots below it
 pub place_is : (a b : ℕ) → place a (suc b) ≡ count_of_pairs b + (a - 1)
-place_is a b =
-    let e : suc b - 1 ≡ b = omega arith in
-    let f : suc b - 2 ≡ b - 1 = omega arith in
-    ap (λ m. m * (suc b - 2) / 2 + (a - 1)) e ∙ ap (λ m. b * m / 2 + (a - 1)) f
+place_is a b = grind (arith, nat_tests)
 
 place_low : (a b : ℕ) → 1 ≤ a → a < b → place a b < count_of_pairs b
 place_low a zero p q = absurd (omega arith)
@@ -52,17 +46,7 @@ by_lower n a zero c (p, q, r) h l = absurd (omega arith)
 by_lower n a (suc b) c (p, q, r) h l = omega (arith, place_is a b, place_is c b)
 
 apart : (n a b c d : ℕ) → IsPair n a b → IsPair n c d → place a b ≡ place c d → (a ≡ c) × (b ≡ d)
-apart n a b c d h k e = ⊎_elim
-    (λ bd. ⊎_elim
-    (λ ac. (ac, bd))
-    (⊎_elim
-    (λ l. absurd (omega (arith, e, by_lower n a d c (subst (IsPair n a) bd h) k l, ap (place a) bd)))
-    (λ l. absurd (omega (arith, e, by_lower n c d a k (subst (IsPair n a) bd h) l, ap (place a) bd))))
-    (cases_order a c))
-    (⊎_elim
-    (λ l. absurd (omega (arith, e, by_higher n a b c d h k l)))
-    (λ l. absurd (omega (arith, e, by_higher n c d a b k h l))))
-    (cases_order b d)
+apart n a b c d h k e = grind (arith, nat_tests, by_higher n a b c d h k, by_higher n c d a b k h, by_lower n a b c h, by_lower n c d a k)
 
 every : (n i : ℕ) → i < count_of_pairs n → (a b : ℕ) × IsPair n a b × (place a b ≡ i)
 every zero i l = absurd (omega arith)

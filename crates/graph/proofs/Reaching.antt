@@ -1,6 +1,7 @@
 -- The test whether lots are joined, and chains, agree.
-use Rattle.std.proofs.Common.{◌≡◌, ℕ, zero, suc, Bool, true, false, ◌&&◌, ◌||◌, eqb, ◌⊎◌, sym, refl, subst, inl, inr, ⊎_elim, arith}
-use Rattle.std.proofs.lemmas.Bool.{cases_eq, eqb-true, eq-eqb, or_cases, or_left, or_right, and_parts, and_from}
+use Rattle.std.proofs.lemmas.Bool.Decides.{nat_tests}
+use Rattle.std.proofs.Common.{◌≡◌, ℕ, zero, suc, Bool, true, ◌&&◌, ◌||◌, eqb, ◌⊎◌, sym, subst, inl, inr, ⊎_elim, arith}
+use Rattle.std.proofs.lemmas.Bool.{cases_eq, eqb-true, or_cases, and_parts}
 use Rattle.graph.specs.ChainLaws.{Within, JoinedIsChained}
 use Rattle.graph.specs.Chains.{Chain, stop, step}
 use Rattle.graph.specs.Joined.{joined, through}
@@ -50,17 +51,16 @@ module _ (e : ℕ → ℕ → Bool) where
       (cases_eq p (suc k))
 
   flat : {y x : ℕ} → Walk zero e y x → (eqb x y || e x y) ≡ true
-  flat {y} here = or_left (eqb y y) (e y y) (eq-eqb y y refl)
-  flat {y} {x} (last f) = or_right (eqb x y) (e x y) f
-  flat (over f (i, m) w) = absurd (omega arith)
+  flat here = grind (arith, nat_tests)
+  flat (last f) = grind (arith, nat_tests)
+  flat (over f l w) = absurd (omega arith)
 
   complete : (n x y : ℕ) → Walk n e y x → joined n e x y ≡ true
   unfolding joined
   complete zero x y w = flat w
   complete (suc k) x y w = ⊎_elim
-      (λ c. or_left (joined k e x y) (joined k e x (suc k) && joined k e (suc k) y) (complete k x y c))
-      (λ c. or_right (joined k e x y) (joined k e x (suc k) && joined k e (suc k) y)
-      (and_from (joined k e x (suc k)) (joined k e (suc k) y) (complete k x (suc k) c.0) (complete k (suc k) y c.1)))
+      (λ c. grind (arith, nat_tests, complete k x y c))
+      (λ c. grind (arith, nat_tests, complete k x (suc k) c.0, complete k (suc k) y c.1))
       (split k w)
 
   walk : {n y x : ℕ} → Within n e → Chain e y x → Walk n e y x
@@ -86,16 +86,7 @@ turn s (step {x = x} {p = p} f c) = joint (turn s c) (step (s x p f) stop)
 
 -- letting a lot through leaves its own row and column as they are, so one table serves for before and after
 pub through_row : (k : ℕ) (f : ℕ → ℕ → Bool) (y : ℕ) → through k f k y ≡ f k y
-through_row k f y = go (f k y) (f k k)
-  where
-    go : (t u : Bool) → (t || (u && t)) ≡ t
-    go true u = refl
-    go false true = refl
-    go false false = refl
+through_row k f y = grind (arith, nat_tests)
 
 pub through_column : (k : ℕ) (f : ℕ → ℕ → Bool) (x : ℕ) → through k f x k ≡ f x k
-through_column k f x = go (f x k) (f k k)
-  where
-    go : (t u : Bool) → (t || (t && u)) ≡ t
-    go true u = refl
-    go false u = refl
+through_column k f x = grind (arith, nat_tests)

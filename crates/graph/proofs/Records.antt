@@ -1,84 +1,50 @@
 -- What a table of records says of the pairs.
-use Rattle.std.proofs.Common.{◌≡◌, ℕ, zero, suc, ◌*◌, ◌<◌, ◌≤◌, Bool, true, false, not, ◌&&◌, eqb, ltb, ◌≢◌, List, [], ◌∷◌, length, get_or, drop, sym, refl, ap, ◌∙◌, subst, ⊎_elim, arith, length-append, length-drop}
-use Rattle.std.proofs.lemmas.List.{get_or_append_left, get_or_past, drop_at}
-use Rattle.std.proofs.lemmas.Bool.{not-true, not_from_false, cases_order, eqb-false, ne_eqb, lt-ltb, le-ltb, cond-true, cond-false, and_parts, and_from, and_right}
+use Rattle.std.proofs.lemmas.Bool.Decides.{nat_tests}
+use Rattle.std.proofs.Common.{◌≡◌, ℕ, zero, suc, ◌*◌, ◌<◌, Bool, true, false, List, [], ◌∷◌, length, get_or, drop, refl, ap, ◌∙◌, arith, length-append, length-drop}
+use Rattle.std.proofs.lemmas.List.{get_or_append_left, drop_at}
 use Rattle.formula.specs.declared.node.Pair.{Pair}
 use Rattle.formula.specs.Tree.{Tree}
 use Rattle.graph.specs.declared.link.Link.{Link}
 use Rattle.graph.specs.Filling.{Pick, start, links}
 use Rattle.graph.specs.InForce.{of_lots}
-use Rattle.graph.specs.Lots.{Lot, is_lot, lots}
+use Rattle.graph.specs.Lots.{lots}
 use Rattle.graph.specs.Marks.{Marks, dashed, solid}
 use Rattle.graph.specs.Numbering.{after, numbers, variable}
 use Rattle.graph.specs.Pairs.{IsPair, place, count_of_pairs, pairs, OfPairs}
-use Rattle.graph.specs.RecordLaws.{FlagsAreTests, Says, RecordsSay}
+use Rattle.graph.specs.RecordLaws.{Says, RecordsSay}
 use Rattle.graph.specs.Records.{no_link, record_of, records, table, drawn, place_of, flagged, is_dashed, is_solid, is_idle_positive, is_idle_negative, is_linked}
 use Rattle.graph.specs.Rounds.{marked}
 use Rattle.graph.proofs.Filling.{stages_pairs}
 use Rattle.graph.proofs.Links.{start_pairs}
 use Rattle.graph.proofs.LivePairs.{of_pairs}
 use Rattle.graph.proofs.Marking.{pairs_marked}
-use Rattle.graph.proofs.Members.{alike, never, has_lots, lot_from, lot_test}
+use Rattle.graph.proofs.Members.{has_lots}
 use Rattle.graph.proofs.Numbering.{pairs_are_numbered}
-use Rattle.graph.proofs.PairTests.{same_tests}
 use Rattle.graph.proofs.Places.{places, count_mono}
 
 -- the place of two lots, in either order
 pub place_low : (a b : ℕ) → a < b → place_of a b ≡ place a b
-place_low a b h = cond-true (ltb a b) (place a b) (place b a) (lt-ltb a b h)
+place_low a b h = grind (arith, nat_tests)
 
 pub place_high : (a b : ℕ) → b < a → place_of a b ≡ place b a
-place_high a b h = cond-false (ltb a b) (place a b) (place b a) (le-ltb a b (omega arith))
+place_high a b h = grind (arith, nat_tests)
 
 module _ (n : ℕ) (flag : Link → Bool) (ls : List Link) where
   abbrev read : ℕ → Bool
   read i = flag (get_or ls i no_link)
 
-  flag_parts : (a b : ℕ) → flagged n flag ls a b ≡ true → Lot n a × Lot n b × (a ≢ b) × (read (place_of a b) ≡ true)
-  flag_parts a b h =
-      let p = and_parts (is_lot n a && is_lot n b) (not (eqb a b) && read (place_of a b)) h in
-      let l = and_parts (is_lot n a) (is_lot n b) p.0 in
-      let q = and_parts (not (eqb a b)) (read (place_of a b)) p.1 in
-      (lot_from n a l.0, lot_from n b l.1, eqb-false a b (not-true (eqb a b) q.0), q.1)
-
-  flag_from : (a b : ℕ) → Lot n a → Lot n b → a ≢ b → read (place_of a b) ≡ true → flagged n flag ls a b ≡ true
-  flag_from a b la lb ne h = and_from (is_lot n a && is_lot n b) (not (eqb a b) && read (place_of a b))
-      (and_from (is_lot n a) (is_lot n b) (lot_test n a la) (lot_test n b lb))
-      (and_from (not (eqb a b)) (read (place_of a b)) (not_from_false (eqb a b) (ne_eqb a b ne)) h)
-
   -- at a pair it is the flag of its record
   pub flag_at : (a b : ℕ) → IsPair n a b → flagged n flag ls a b ≡ read (place a b)
-  flag_at a b (p, q, r) = alike (flagged n flag ls a b) (read (place a b))
-      (λ h. subst (λ i. read i ≡ true) (place_low a b q) (flag_parts a b h).3)
-      (λ h. flag_from a b (p, omega arith) (omega arith, r) (λ e. omega arith) (subst (λ i. read i ≡ true) (sym (place_low a b q)) h))
-
--- the place has no order
-place_turns : (a b : ℕ) → a ≢ b → place_of a b ≡ place_of b a
-place_turns a b ne = ⊎_elim
-    (λ e. absurd (ne e))
-    (⊎_elim (λ l. place_low a b l ∙ sym (place_high b a l)) (λ l. place_high a b l ∙ sym (place_low b a l)))
-    (cases_order a b)
+  flag_at a b (p, q, r) = grind (arith, nat_tests)
 
 -- a flag of any table is a test of pairs
 pub flagged_pairs : (n : ℕ) (flag : Link → Bool) (ls : List Link) → OfPairs n (flagged n flag ls)
-flagged_pairs n flag ls = record {
-  turns = λ x y. alike (flagged n flag ls x y) (flagged n flag ls y x) (turn x y) (turn y x);
-  own = λ x. never (flagged n flag ls x x) (λ h. (flag_parts n flag ls x x h).2 refl);
-  lots = λ x y h. let p = flag_parts n flag ls x y h in (p.0, p.1);
-}
-  where
-    turn : (x y : ℕ) → flagged n flag ls x y ≡ true → flagged n flag ls y x ≡ true
-    turn x y h =
-        let (lx, ly, ne, r) = flag_parts n flag ls x y h in
-        flag_from n flag ls y x ly lx (λ e. ne (sym e)) (subst (λ i. flag (get_or ls i no_link) ≡ true) (place_turns x y ne) r)
+flagged_pairs n flag ls = grind (arith, nat_tests)
 
 -- records that have the flag where a test says so
 pub flags_by : (n : ℕ) (flag : Link → Bool) (ls : List Link) (e : ℕ → ℕ → Bool) → OfPairs n e
     → ((a b : ℕ) → IsPair n a b → flag (get_or ls (place a b) no_link) ≡ e a b) → flagged n flag ls ≡ e
-flags_by n flag ls e o h = same_tests n (flagged n flag ls) e (flagged_pairs n flag ls) o (λ a b p. flag_at n flag ls a b p ∙ h a b p)
-
-pub flags_are_tests : FlagsAreTests
-flags_are_tests n flag ls e o = (flags_by n flag ls e o, λ q a b p. sym (flag_at n flag ls a b p) ∙ ap (λ f. f a b) q)
+flags_by n flag ls e o h = grind (arith, nat_tests)
 
 -- the records, place by place
 records_at : (k : ℕ) (fs : List (Tree (Pair ℕ))) (m : Marks) (linked : ℕ → ℕ → Bool) (ps : List (ℕ × ℕ)) (i : ℕ) (d : ℕ × ℕ) (e : Link) → i < length ps
@@ -130,7 +96,3 @@ module _ (n : ℕ) (fs : List (Tree (Pair ℕ))) (pick : Pick) (old : List Link)
 
 pub records_say : RecordsSay
 records_say n fs g pick old = says n fs pick old g
-
--- a pair whose record lies behind the table has no flag that the empty record lacks
-pub past_table : (n : ℕ) (flag : Link → Bool) (ls : List Link) (a b : ℕ) → flag no_link ≡ false → length ls ≤ place_of a b → flagged n flag ls a b ≡ false
-past_table n flag ls a b e h = and_right (is_lot n a && is_lot n b) _ (and_right (not (eqb a b)) _ (ap flag (get_or_past ls (place_of a b) no_link h) ∙ e))

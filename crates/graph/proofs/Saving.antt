@@ -1,6 +1,7 @@
 -- Idle literals are safe after any number of rounds.
-use Rattle.std.proofs.Common.{◌≡◌, ℕ, zero, suc, ◌*◌, Bool, true, false, List, [], ◌∷◌, ⊎_elim}
-use Rattle.std.proofs.lemmas.Bool.{both_ways, false≢true, or_cases, or_left, or_right}
+use Rattle.std.proofs.lemmas.Bool.Decides.{nat_tests}
+use Rattle.std.proofs.Common.{arith, ◌≡◌, ℕ, zero, suc, ◌*◌, Bool, true, false, List, [], ◌∷◌, ⊎_elim}
+use Rattle.std.proofs.lemmas.Bool.{both_ways, false≢true, or_cases}
 use Rattle.formula.specs.declared.node.Pair.{Pair}
 use Rattle.formula.specs.Tree.{Tree}
 use Rattle.graph.specs.Chains.{Chain, stop, step, Path}
@@ -34,13 +35,7 @@ module _ (n : ℕ) (fs : List (Tree (Pair ℕ))) (g : of_lots n fs ≡ true) (m 
   dashed_turn = turned (of_pairs n fs g m true)
 
   fewer_bonds : (a b : ℕ) → bonds fs m' a b ≡ true → bonds fs m a b ≡ true
-  fewer_bonds a b h = ⊎_elim
-      (λ i. ⊎_elim
-      (λ p. or_left (m.positive a b) (D a b) p)
-      (λ p. or_right (m.positive a b) (D a b) (marks_live n fs g m true a b p))
-      (round_cases n fs m true a b i))
-      (λ d. or_right (m.positive a b) (D a b) (fewer.dashes fs a b d))
-      (or_cases (m'.positive a b) (dashed fs m' a b) h)
+  fewer_bonds a b h = grind (arith, nat_tests, round_cases n fs m true a b, marks_live n fs g m true a b, fewer.dashes fs a b)
 
   -- in a component that holds a solid pair no dashed pair becomes idle, so the bonds of a path there stay dashed
   stays_dashed : (x y : ℕ) → solid fs m x y ≡ true → (z : ℕ) (ps : List ℕ) → Chain D z x → Path (bonds fs m') y z ps → Path D y z ps → Path (dashed fs m') y z ps
@@ -73,7 +68,7 @@ module _ (n : ℕ) (fs : List (Tree (Pair ℕ))) (g : of_lots n fs ≡ true) (m 
 
 -- where nothing is marked
 unmarked_dashed : (fs : List (Tree (Pair ℕ))) (a b : ℕ) → bonds fs unmarked a b ≡ true → dashed fs unmarked a b ≡ true
-unmarked_dashed fs a b h = ⊎_elim (λ p. absurd (false≢true p)) (λ p. p) (or_cases false (dashed fs unmarked a b) h)
+unmarked_dashed fs a b h = grind (arith, nat_tests)
 
 pub safe : (n : ℕ) (fs : List (Tree (Pair ℕ))) → of_lots n fs ≡ true → (k : ℕ) → Safe fs (rounds k n fs)
 safe n fs g zero = record {

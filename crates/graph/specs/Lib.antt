@@ -1,5 +1,4 @@
 pub mod Lots
-pub mod Members
 pub mod Pairs
 pub mod PairLaws
 pub mod Chains
@@ -22,12 +21,12 @@ pub mod Filled
 pub mod Picking
 pub mod FillingLaws
 pub mod Standing
-pub mod Standings
 pub mod StandingLaws
 pub mod Triangles
 pub mod TriangleLaws
 pub mod Numbering
 pub mod NumberingLaws
 pub mod Records
+pub mod Standings
 pub mod RecordLaws
 pub mod Examples

@@ -1,6 +1,6 @@
 -- Lots by their numbers, and lists of them (executable). Rests on nothing.
-use Rattle.std.specs.Prelude.{◌≡◌, ℕ, zero, suc, ◌≤◌, Bool, true, false, cond, ◌&&◌, ◌||◌, List, [], ◌∷◌, ◌==◌, nat_le}
-use Rattle.std.specs.List.{range_with_len}
+use Rattle.std.specs.Prelude.{◌≡◌, ℕ, ◌≤◌, Bool, true, false, filter, not, ◌&&◌, List, [], ◌∷◌, ◌==◌, nat_le}
+use Rattle.std.specs.List.{range_with_len, list_any}
 
 -- where there are n lots, they have the numbers 1 to n
 abbrev pub Lot : ℕ → ℕ → Type 0
@@ -16,18 +16,15 @@ lots n = range_with_len 1 n
 
 -- some lot passes
 abbrev pub some : ℕ → (ℕ → Bool) → Bool
-some zero p = false
-some (suc k) p = p (suc k) || some k p
+some n p = list_any p (lots n)
 
 -- a lot stands in a list
 abbrev pub has : ℕ → List ℕ → Bool
-has x [] = false
-has x (v ∷ rest) = x == v || has x rest
+has x xs = list_any (λ v. x == v) xs
 
 -- a list without a lot, the others in their order
 abbrev pub without : ℕ → List ℕ → List ℕ
-without v [] = []
-without v (x ∷ xs) = cond (v == x) (without v xs) (x ∷ without v xs)
+without v xs = filter (λ x. not (v == x)) xs
 
 -- no lot stands twice
 abbrev pub Simple : List ℕ → Type 0

@@ -1,7 +1,8 @@
 -- Marks on pairs: the truth of a literal and of a node under marks, live literals, dashed and solid pairs (executable). Rests on Pairs, and on the normal
 -- forms and the scale of three of formulas.
-use Rattle.std.specs.Prelude.{ℕ, Bool, true, false, cond, ◌&&◌, ◌||◌, List, [], ◌∷◌, ◌==◌}
+use Rattle.std.specs.Prelude.{ℕ, Bool, true, false, cond, ◌&&◌, ◌||◌, List, ◌==◌}
 use Rattle.std.specs.Bool.{beq}
+use Rattle.std.specs.List.{list_any}
 use Rattle.formula.specs.Decided.{known}
 use Rattle.formula.specs.Normal.{nnf}
 use Rattle.formula.specs.Scales.{three}
@@ -60,8 +61,7 @@ live m (then w t u) s a b = is_open (value m (then w t u)) && (live m t s a b ||
 
 -- the normal form of some formula in force has a live literal of a sign on a pair
 abbrev pub live_in : Marks → List (Tree (Pair ℕ)) → Bool → ℕ → ℕ → Bool
-live_in m [] s a b = false
-live_in m (f ∷ fs) s a b = live m (nnf true f) s a b || live_in m fs s a b
+live_in m fs s a b = list_any (λ f. live m (nnf true f) s a b) fs
 
 -- live positive literals make a pair dashed
 abbrev pub dashed : List (Tree (Pair ℕ)) → Marks → ℕ → ℕ → Bool

@@ -1,5 +1,5 @@
 -- Numbering of the linked pairs (executable). Rests on Pairs.
-use Rattle.std.specs.Prelude.{ℕ, suc, Bool, cond, List, [], ◌∷◌, slice_index}
+use Rattle.std.specs.Prelude.{ℕ, suc, Bool, cond, List, [], ◌∷◌, slice_index, count_by}
 use Rattle.graph.specs.Pairs.{place, pairs}
 
 -- the variable of a pair where k is the next: k if it is linked, else 0
@@ -17,8 +17,7 @@ numbers k linked (p ∷ ps) = number k linked p ∷ numbers (after k linked p) l
 
 -- how many pairs of a list are linked
 abbrev pub linked_count : (ℕ → ℕ → Bool) → List (ℕ × ℕ) → ℕ
-linked_count linked [] = 0
-linked_count linked (p ∷ ps) = cond (linked p.0 p.1) (suc (linked_count linked ps)) (linked_count linked ps)
+linked_count linked ps = count_by (λ p. linked p.0 p.1) ps
 
 -- of n lots, the variable of the pair of a and b, a below b: linked pairs are numbered from 1 by their places, a pair that is not linked has 0
 abbrev pub variable : ℕ → (ℕ → ℕ → Bool) → ℕ → ℕ → ℕ

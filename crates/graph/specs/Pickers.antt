@@ -1,5 +1,6 @@
 -- The two pickers (executable). Rests on Filling.
-use Rattle.std.specs.Prelude.{ℕ, zero, suc, Bool, cond, List, [], ◌∷◌, nat_le}
+use Rattle.std.specs.Prelude.{ℕ, Bool, List, [], ◌∷◌, nat_lt, count_by}
+use Rattle.std.specs.List.{best_of}
 use Rattle.graph.specs.Filling.{Pick}
 
 -- lowest number: the first of the standing lots, which come in rising order
@@ -9,22 +10,11 @@ lowest_first (x ∷ rest) e = x
 
 -- how many lots of a list are neighbours of v
 abbrev pub degree : (ℕ → ℕ → Bool) → ℕ → List ℕ → ℕ
-degree e v [] = 0
-degree e v (x ∷ xs) = cond (e v x) (suc (degree e v xs)) (degree e v xs)
+degree e v xs = count_by (λ x. e v x) xs
 
--- the better of two lots by a figure d: the first, unless the second has a lower figure
-abbrev pub better : (ℕ → ℕ) → ℕ → ℕ → ℕ
-better d best x = cond (nat_le (d best) (d x)) best x
-
--- the same where there may be none (0) so far
-abbrev pub improved : (ℕ → ℕ) → ℕ → ℕ → ℕ
-improved d zero x = x
-improved d (suc b) x = better d (suc b) x
-
--- the best of a lot and those of a list
+-- the best of a lot and those of a list by a figure d: the first that none has a lower figure than
 abbrev pub fewest : (ℕ → ℕ) → ℕ → List ℕ → ℕ
-fewest d best [] = best
-fewest d best (x ∷ xs) = fewest d (better d best x) xs
+fewest d best xs = best_of (λ x y. nat_lt (d x) (d y)) best xs
 
 -- fewest standing neighbours, then lowest number
 abbrev pub fewest_first : Pick

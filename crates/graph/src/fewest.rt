@@ -1,9 +1,8 @@
-ghost use Rattle.std.specs.Prelude.{◌≡◌, ◌≤◌, length};
-ghost use Rattle.graph.specs.Lots.{Lot};
-ghost use Rattle.graph.specs.Pickers.{degree as degree_of, improved, fewest_first};
+ghost use Rattle.std.specs.Prelude.{◌≡◌};
+ghost use Rattle.std.specs.Option.{unwrap_or};
+ghost use Rattle.graph.specs.Pickers.{degree as degree_of, fewest_first};
 ghost use Rattle.graph.specs.Picking.{fewest_names};
-ghost use Rattle.graph.specs.Records.{flagged, is_linked};
-ghost use Rattle.graph.specs.Standing.{standing_in};
+ghost use Rattle.graph.specs.Standings.{standing_lots, linked_in};
 
 use crate::link::Link;
 use crate::pair::place;
@@ -14,62 +13,45 @@ use crate::standing::Standing;
 #[derive(Clone, Copy)]
 pub struct FewestFirst;
 
-// Whether two of so many lots are linked.
-fn are_linked(links: &[Link], lots: usize, one: usize, other: usize) -> bool
-    requires { (lots ≤ 24) × Lot lots one × Lot lots other }
-    ensures { result ≡ flagged lots is_linked links.now one other }
-{
-    if one == other {
-        return false;
-    }
-    let at = if one < other {
-        place(one, other)
-    } else {
-        place(other, one)
-    };
-    at < links.len() && links[at].linked
+// The lots that stand, and the links among the lots.
+#[derive(Clone, Copy)]
+struct View<'a> {
+    standing: &'a Standing,
+    links: &'a [Link],
 }
 
-// How many standing neighbours a lot has.
-fn degree(flags: &[bool], links: &[Link], lot: usize) -> usize
-    requires { (length flags.now ≤ 24) × Lot (length flags.now) lot }
-    ensures { result ≡ degree_of (flagged (length flags.now) is_linked links.now) lot (standing_in flags.now) }
-{
-    let mut count = 0;
-    for (i, stands) in flags.iter().enumerate() {
-        if *stands && are_linked(links, flags.len(), lot, i + 1) {
-            count += 1;
+impl<'a> View<'a> {
+    // Whether two lots are linked; false but for two different lots.
+    fn are_linked(&self, one: usize, other: usize) -> bool
+        ensures { result ≡ linked_in self.now.standing.now self.now.links.now one other }
+    {
+        let lower = one.min(other);
+        let higher = one.max(other);
+        if lower == 0 || lower == higher || higher > self.standing.flags().len() {
+            return false;
         }
+        let link = self.links.get(place(lower, higher));
+        link.is_some_and(|link| link.linked)
     }
-    count
-}
 
-// The better of the best so far, which may be none (0), and a lot.
-fn better(flags: &[bool], links: &[Link], best: usize, lot: usize) -> usize
-    requires { (length flags.now ≤ 24) × (best ≤ length flags.now) × Lot (length flags.now) lot }
-    ensures { result ≡ improved (λ v. degree_of (flagged (length flags.now) is_linked links.now) v (standing_in flags.now)) best lot }
-{
-    if best == 0 {
-        return lot;
+    // How many standing neighbours a lot has.
+    fn degree(&self, lot: usize) -> usize
+        ensures { result ≡ degree_of (linked_in self.now.standing.now self.now.links.now) lot (standing_lots self.now.standing.now) }
+    {
+        (1..=self.standing.flags().len())
+            .filter(|other| self.standing.stands(*other))
+            .filter(|other| self.are_linked(lot, *other))
+            .count()
     }
-    if degree(flags, links, best) <= degree(flags, links, lot) {
-        return best;
-    }
-    lot
-}
 
-// The lot with the fewest standing neighbours, or 0.
-fn fewest(flags: &[bool], links: &[Link]) -> usize
-    requires { length flags.now ≤ 24 }
-    ensures { result ≡ fewest_first (standing_in flags.now) (flagged (length flags.now) is_linked links.now) }
-{
-    let mut best = 0;
-    for (i, stands) in flags.iter().enumerate() {
-        if *stands {
-            best = better(flags, links, best, i + 1);
-        }
+    // The lot with the fewest standing neighbours: of several the lowest, which comes first.
+    fn fewest(&self) -> Option<usize>
+        ensures { unwrap_or result 0 ≡ fewest_first (standing_lots self.now.standing.now) (linked_in self.now.standing.now self.now.links.now) }
+    {
+        (1..=self.standing.flags().len())
+            .filter(|lot| self.standing.stands(*lot))
+            .min_by_key(|lot| self.degree(*lot))
     }
-    best
 }
 
 impl Picker for FewestFirst {
@@ -78,6 +60,6 @@ impl Picker for FewestFirst {
     ghost names = { λ _. fewest_names };
 
     fn pick(&self, standing: &Standing, links: &[Link]) -> usize {
-        fewest(standing.flags(), links)
+        View { standing, links }.fewest().unwrap_or(0)
     }
 }

@@ -8,6 +8,6 @@ pub struct Link {
     pub idle_positive: bool,
     pub idle_negative: bool,
     pub linked: bool,
-    /// From 1; 0 if the pair is not linked.
+    /// From 1; 0 if the pair is not linked. A number, since that is the form of a record.
     pub variable: u16,
 }

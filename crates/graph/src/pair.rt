@@ -5,7 +5,7 @@ ghost use Rattle.graph.specs.Pairs.{IsPair, place as place_of_pair, count_of_pai
 pub const MAX_LOTS: usize = 24;
 
 /// The most pairs: those of so many lots.
-pub const MAX_PAIRS: usize = 276;
+pub const MAX_PAIRS: usize = MAX_LOTS * (MAX_LOTS - 1) / 2;
 
 /// The place of the record of a pair of lots, numbered from 1.
 pub fn place(lower: usize, higher: usize) -> usize
@@ -13,7 +13,7 @@ pub fn place(lower: usize, higher: usize) -> usize
     ensures value { result ≡ place_of_pair lower higher }
     ensures within { result < 276 }
 {
-    (higher - 1) * (higher - 2) / 2 + (lower - 1)
+    pair_count(higher - 1) + (lower - 1)
 }
 
 /// How many pairs so many lots have.
@@ -22,5 +22,5 @@ pub fn pair_count(lots: usize) -> usize
     ensures value { result ≡ count_of_pairs lots }
     ensures within { result ≤ 276 }
 {
-    if lots == 0 { 0 } else { lots * (lots - 1) / 2 }
+    lots * lots.saturating_sub(1) / 2
 }

@@ -1,28 +1,17 @@
 -- The words of a line, counted one by one; and where they stand.
-use Rattle.std.proofs.Common.{◌≡◌, ℕ, suc, ◌+◌, ◌<◌, ◌≤◌, Bool, List, [], ◌∷◌, length, get_or, drop, ap, arith}
-use Rattle.std.proofs.lemmas.List.{drop_more, drop_all, length-drop}
+use Rattle.std.proofs.Common.{◌≡◌, ℕ, suc, ◌+◌, ◌<◌, ◌≤◌, Bool, List, [], ◌∷◌, length, ap, refl, arith}
+use Rattle.std.specs.List.{count_by}
+use Rattle.std.proofs.lemmas.List.{length-drop}
+use Rattle.std.proofs.lemmas.List.Recursion.{is_sum_by}
 use Rattle.reading.proofs.Tokens.{lexed}
 use Rattle.grammar.specs.declared.token.Token.{Token}
 use Rattle.grammar.specs.declared.token.Token.TheVariants.{Open, Close, Name, With, Not, And, Or, Then}
-use Rattle.grammar.specs.Words.{weight, words, Rising}
+use Rattle.grammar.specs.Words.{is_word, weight, words, Rising}
 use Rattle.reading.specs.Bytes.{with, not, and, or, then}
 use Rattle.reading.specs.Spells.{TokenAt, opens, closes, word, name, Spelt, here, space, token}
 
-pub weight_most : (k : Token) → weight k ≤ 1
-weight_most Open = omega arith
-weight_most Close = omega arith
-weight_most (Name a) = omega arith
-weight_most (With p) = omega arith
-weight_most (Not p) = omega arith
-weight_most (And p) = omega arith
-weight_most (Or p) = omega arith
-weight_most (Then p) = omega arith
-
-pub words_more : (ts : List Token) (i : ℕ) → i < length ts → words (drop i ts) ≡ weight (get_or ts i Open) + words (drop (i + 1) ts)
-words_more ts i h = ap words (drop_more ts i Open h)
-
-pub words_end : (ts : List Token) (i : ℕ) → length ts ≤ i → words (drop i ts) ≡ 0
-words_end ts i h = ap words (drop_all i ts h)
+pub words_are : (ts : List Token) → words ts ≡ count_by is_word ts
+words_are ts = is_sum_by words weight refl (λ _ _. refl) ts
 
 -- words may begin earlier than is said
 sooner : (ts : List Token) (low from to : ℕ) → low ≤ from → Rising from to ts → Rising low to ts

@@ -1,26 +1,19 @@
 -- Decoding, as computed and as the rule says, for any list of spellings.
 use Rattle.std.proofs.Common.{◌≡◌, ℕ, zero, suc, ◌+◌, ◌≤◌, Bool, true, false, cond, eqb, List, [], ◌∷◌, ◌++◌, length, drop, Some, None, Option, sym, refl, ap, ◌∙◌, subst, zero-add, arith}
 use mathlib.Core.Bool.{false≢true}
-use Rattle.std.proofs.lemmas.Bool.{eqb-true, cond-true, cond-false}
+use Rattle.std.proofs.lemmas.Bool.{and_parts, or_parts, or_from, eqb-true, cond-true, cond-false}
 use Rattle.reading.specs.Bytes.{plain}
 use Rattle.reading.specs.Decoding.{starts, first_of, Runs, stops, itself, ampersand, reference}
 use Rattle.reading.specs.Scan.{behind, extra, decoded}
-use Rattle.grammar.proofs.Same.{both_cases}
-use Rattle.reading.proofs.Tests.{either_none, neither, unlike}
+use Rattle.reading.proofs.Tests.{unlike}
 
 pub starts_is : (xs bs : List ℕ) → starts xs bs ≡ true → (bs ≡ xs ++ drop (length xs) bs) × (length xs ≤ length bs)
 starts_is [] bs e = (refl, omega arith)
 starts_is (x ∷ xs) [] e = absurd (false≢true e)
 starts_is (x ∷ xs) (b ∷ bs) e =
-    let h = both_cases (eqb b x) (starts xs bs) e in
+    let h = and_parts (eqb b x) (starts xs bs) e in
     let g = starts_is xs bs h.1 in
     (ap (λ z. z ∷ bs) (eqb-true b x h.0) ∙ ap (λ zs. x ∷ zs) g.0, omega (arith, g.1))
-
-none_some : {s : List ℕ} → None ≡ Some s → ⊥
-none_some e = let z : ◌≡◌ {A = ℕ} 0 1 = cc in omega arith
-
-some_same : {s u : List ℕ} → Some s ≡ Some u → s ≡ u
-some_same e = cc
 
 pub extra_fits : (sp : List (List ℕ)) (bs : List ℕ) → extra (first_of sp bs) ≤ length bs
 extra_fits [] bs = omega arith
@@ -65,7 +58,7 @@ module _ (sp : List (List ℕ)) where
           subst (λ z. Decoding 0 (z ∷ bs) (behind 38 (decoded sp (extra (first_of sp bs)) bs))) (sym (eqb-true b 38 e))
           (at_ampersand bs (first_of sp bs) refl far)
       here false e true f far near = (omega (arith, near.0), itself f near.1)
-      here false e false f far near = (omega arith, stops (either_none (eqb b 38) (plain b) e f))
+      here false e false f far near = (omega arith, stops (or_from (eqb b 38) (plain b) e f))
 
   -- what is spelt is what is computed
   pub record Computed (bs r n : List ℕ) : Type 0 where
@@ -78,7 +71,7 @@ module _ (sp : List (List ℕ)) where
   unfolding decoded
   runs_decoded (stops {r = []} e) = record { count = 0; is = refl; fits = omega arith; leaves = refl }
   runs_decoded (stops {r = b ∷ r} e) =
-      let h = neither (eqb b 38) (plain b) e in
+      let h = or_parts (eqb b 38) (plain b) e in
       record { count = 0; is = cond-false (eqb b 38) _ _ h.0 ∙ cond-false (plain b) _ _ h.1; fits = omega arith; leaves = refl }
   runs_decoded (itself {b = b} {bs = bs} h x) =
       let g = runs_decoded x in

@@ -1,12 +1,11 @@
 -- What is spelt is found, and what is wrong is found to be wrong.
-use Rattle.std.proofs.Common.{◌≡◌, ℕ, zero, suc, ◌+◌, ◌≤◌, Bool, true, false, ◌≢◌, List, [], ◌∷◌, ◌++◌, length, drop, Ok, Err, sym, refl, ap, ◌∙◌, subst, append_assoc, append-nil, add-zero, arith}
+use Rattle.std.proofs.Common.{◌≡◌, ℕ, zero, suc, ◌+◌, ◌≤◌, Bool, true, false, ◌≢◌, List, [], ◌∷◌, ◌++◌, length, drop, Some, None, Ok, Err, Option, sym, refl, ap, ◌∙◌, subst, append_assoc, append-nil, add-zero, arith}
 use mathlib.Core.Bool.{false≢true}
 use Rattle.std.proofs.lemmas.Bool.{cond-true, cond-false}
 use Rattle.std.proofs.lemmas.List.{length-drop}
 use Rattle.grammar.specs.declared.state.State.{State}
-use Rattle.grammar.specs.declared.state.State.TheVariants.{WantPart, HaveName, WantName, HavePart, Lost}
 use Rattle.grammar.specs.declared.token.Token.{Token}
-use Rattle.grammar.specs.Automaton.{step, run, ended}
+use Rattle.grammar.specs.Automaton.{step, run, ended, complete}
 use Rattle.grammar.proofs.Prefixes.{run_lost}
 use Rattle.reading.specs.Bytes.{edge, tight}
 use Rattle.reading.specs.Spells.{TokenAt, Apart, Spelt, here, space, token}
@@ -71,17 +70,10 @@ pub prefixed_twice : (xs ys : List Token) (r : Scanned) → prefixed xs (prefixe
 prefixed_twice xs ys (Ok ks) = ap Ok (sym (append_assoc xs ys ks))
 prefixed_twice xs ys (Err f) = refl
 
-pub allow : (at : ℕ) (k : Token) (q : State) (r : Scanned) → q ≢ Lost → allowed at k q r ≡ prefixed (k ∷ []) r
-allow at k (WantPart d) r h = refl
-allow at k (HaveName d) r h = refl
-allow at k (WantName d) r h = refl
-allow at k (HavePart d) r h = refl
-allow at k Lost r h = absurd (h refl)
-
 -- one token that is spelt
-one_token : (u : Bool) (at next : ℕ) (bs rest : List ℕ) (k : Token) (s : State) → Apart u bs → TokenAt at bs k rest → next + length rest ≡ at + length bs → step s k ≢ Lost
-    → scan_from 0 u at s bs ≡ prefixed (k ∷ []) (scan_from 0 (tight k) next (step s k) rest)
-one_token u at next bs rest k s a x e l =
+one_token : (u : Bool) (at next : ℕ) (bs rest : List ℕ) (k : Token) (s q : State) → Apart u bs → TokenAt at bs k rest → next + length rest ≡ at + length bs → step s k ≡ Some q
+    → scan_from 0 u at s bs ≡ prefixed (k ∷ []) (scan_from 0 (tight k) next q rest)
+one_token u at next bs rest k s q a x e l =
     let g = lexed x in
     let b : ℕ = g.first in
     let cs : List ℕ = g.others in
@@ -91,26 +83,29 @@ one_token u at next bs rest k s a x e l =
     let m : at + 1 + n ≡ next = omega (arith, ap length g.split, ap length g.leaves) in
     ap (λ y. scan_from 0 u at s y) g.split
     ∙ step_taken b cs u at s (subst (Apart u) g.split a) (no_gap b g.no_space) (got k n) g.is
-    ∙ allow at k (step s k) (scan_from n (tight k) (at + 1) (step s k) cs) l
-    ∙ ap (prefixed (k ∷ [])) (skipped n cs (tight k) (at + 1) (step s k) fit
-    ∙ ap (λ y. scan_from 0 (tight k) y (step s k) (drop n cs)) m ∙ ap (scan_from 0 (tight k) next (step s k)) g.leaves)
+    ∙ ap (λ o. allowed at k o (λ v. scan_from n (tight k) (at + 1) v cs)) l
+    ∙ ap (prefixed (k ∷ [])) (skipped n cs (tight k) (at + 1) q fit
+    ∙ ap (λ y. scan_from 0 (tight k) y q (drop n cs)) m ∙ ap (scan_from 0 (tight k) next q) g.leaves)
 
-lives : (s : State) (ts : List Token) → run s ts ≢ Lost → s ≢ Lost
-lives s ts h e = h (ap (λ q. run q ts) e ∙ run_lost ts)
+-- tokens that lead somewhere are taken from the first on
+taken_first : (o : Option State) (ts : List Token) (q : State) → run o ts ≡ Some q → (v : State) × (o ≡ Some v)
+taken_first None ts q h = absurd (let e = run_lost ts in let z : ⊥ = cc in z)
+taken_first (Some v) ts q h = (v, refl)
 
 -- what is spelt is passed over token by token
-pub follows : {p : ℕ} {r : List ℕ} {t u : Bool} {at : ℕ} {bs : List ℕ} {ts : List Token} → Spelt p r t u at bs ts → (s : State) → run s ts ≢ Lost
-    → scan_from 0 u at s bs ≡ prefixed ts (scan_from 0 t p (run s ts) r)
+pub follows : {p : ℕ} {r : List ℕ} {t u : Bool} {at : ℕ} {bs : List ℕ} {ts : List Token} → Spelt p r t u at bs ts → (s q : State) → run (Some s) ts ≡ Some q
+    → scan_from 0 u at s bs ≡ prefixed ts (scan_from 0 t p q r)
 unfolding scan_from
-follows {p} {r} {t} here s h = sym (prefixed_none (scan_from 0 t p s r))
-follows (space x) s h = follows x s h
-follows {p} {r} {t} {u} (token {q = at} {next = next} {bs = bs} {rest = rest} {k = k} {ts = ts} a x e y) s h =
-    one_token u at next bs rest k s a x e (lives (step s k) ts h)
-    ∙ ap (prefixed (k ∷ [])) (follows y (step s k) h)
-    ∙ prefixed_twice (k ∷ []) ts (scan_from 0 t p (run s (k ∷ ts)) r)
+follows {p} {r} {t} here s q h = sym (prefixed_none (scan_from 0 t p s r)) ∙ ap (λ v. prefixed [] (scan_from 0 t p v r)) (let e : s ≡ q = cc in e)
+follows (space x) s q h = follows x s q h
+follows {p} {r} {t} {u} (token {q = at} {next = next} {bs = bs} {rest = rest} {k = k} {ts = ts} a x e y) s q h =
+    let v = taken_first (step s k) ts q h in
+    one_token u at next bs rest k s v.0 a x e v.1
+    ∙ ap (prefixed (k ∷ [])) (follows y v.0 q (sym (ap (λ o. run o ts) v.1) ∙ h))
+    ∙ prefixed_twice (k ∷ []) ts (scan_from 0 t p q r)
 
 -- the cause of a fault makes the fault
-caused : (s : State) {t : Bool} {p : ℕ} {r : List ℕ} {f : RuleFault} → Cause (λ k. step s k ≡ Lost) (ended s ≡ false) t p r f → scan_from 0 t p s r ≡ Err f
+caused : (s : State) {t : Bool} {p : ℕ} {r : List ℕ} {f : RuleFault} → Cause (λ k. step s k ≡ None) (ended s ≡ false) t p r f → scan_from 0 t p s r ≡ Err f
 unfolding scan_from
 caused s {t} {p} (not_apart {b = b} {bs = bs} h e) = step_wrong b bs t p s h e
 caused s {t} {p} (no_token {b = b} {bs = bs} a n no_spelt no_long) =
@@ -126,14 +121,19 @@ caused s {t} {p} (out_of_grammar {bs = xs} {k = k} a x l) =
     let g = lexed x in
     ap (λ y. scan_from 0 t p s y) g.split
     ∙ step_taken g.first g.others t p s (subst (Apart t) g.split a) (no_gap g.first g.no_space) (got k g.count) g.is
-    ∙ ap (λ q. allowed p k q (scan_from g.count (tight k) (p + 1) (step s k) g.others)) l
+    ∙ ap (λ o. allowed p k o (λ q. scan_from g.count (tight k) (p + 1) q g.others)) l
 caused s {t} {p} (unfinished e) = cond-false (ended s) _ _ e
 
 pub explained_back : (u : Bool) (s : State) (at : ℕ) (bs : List ℕ) (f : RuleFault) → Explained u s at bs f → scan_from 0 u at s bs ≡ Err f
-explained_back u s at bs f x = follows x.4 s x.5 ∙ ap (prefixed x.0) (caused (run s x.0) x.6)
+explained_back u s at bs f x = follows x.4 s x.5 x.6 ∙ ap (prefixed x.0) (caused x.5 x.7)
 
-pub accepted_back : (u t : Bool) (s : State) (at end : ℕ) (bs : List ℕ) (ts : List Token) → Spelt end [] t u at bs ts → ended (run s ts) ≡ true → run s ts ≢ Lost
+complete_some : (o : Option State) → complete o ≡ true → (q : State) × (o ≡ Some q) × (ended q ≡ true)
+complete_some None h = absurd (false≢true h)
+complete_some (Some q) h = (q, refl, h)
+
+pub accepted_back : (u t : Bool) (s : State) (at end : ℕ) (bs : List ℕ) (ts : List Token) → Spelt end [] t u at bs ts → complete (run (Some s) ts) ≡ true
     → scan_from 0 u at s bs ≡ Ok ts
 unfolding scan_from
-accepted_back u t s at end bs ts x e l =
-    follows x s l ∙ ap (prefixed ts) (cond-true (ended (run s ts)) _ _ e) ∙ ap Ok (append-nil ts)
+accepted_back u t s at end bs ts x h =
+    let g = complete_some (run (Some s) ts) h in
+    follows x s g.0 g.1 ∙ ap (prefixed ts) (cond-true (ended g.0) _ _ g.2) ∙ ap Ok (append-nil ts)

@@ -1,66 +1,61 @@
 -- Faults in the words of the automaton, and in those of the grammar.
-use Rattle.std.proofs.Common.{◌≡◌, ℕ, Bool, true, false, ◌≢◌, List, ◌∷◌, ◌++◌, sym, refl, ap, ◌∙◌}
-use mathlib.Core.Bool.{false≢true}
+use Rattle.std.proofs.Common.{◌≡◌, ℕ, Bool, false, List, ◌∷◌, ◌++◌, Some, None, Option, sym, refl, ap, ◌∙◌}
+use Rattle.std.proofs.lemmas.Bool.{false≢true, false_from_ne_true}
 use Rattle.grammar.specs.declared.state.State.{State}
-use Rattle.grammar.specs.declared.state.State.TheVariants.{WantPart, HaveName, WantName, HavePart, Lost}
+use Rattle.grammar.specs.declared.state.State.TheVariants.{WantPart}
 use Rattle.grammar.specs.declared.token.Token.{Token}
-use Rattle.grammar.specs.Automaton.{step, run, ended, accepted}
+use Rattle.grammar.specs.Automaton.{step, run, start, ended, complete, accepted}
 use Rattle.grammar.proofs.Complete.{accepts}
 use Rattle.grammar.proofs.Sound.{derived}
 use Rattle.grammar.proofs.Hopes.{never}
 use Rattle.grammar.proofs.Prefixes.{run_append, completion}
 use Rattle.reading.specs.Faults.{Cause, not_apart, no_token, long_name, out_of_grammar, unfinished, Viable, Refused, NoRule, Faulty}
 use Rattle.reading.specs.declared.fault.RuleFault.{RuleFault}
-use Rattle.reading.proofs.Outcomes.{Explained, want_lives, name_lives, second_lives, part_lives}
+use Rattle.reading.proofs.Outcomes.{Explained}
 
 -- the state behind tokens from the start of a line
-abbrev pub state : List Token → State
-state ts = run (WantPart 0) ts
+abbrev pub state : List Token → Option State
+state ts = run start ts
 
-behind : (ts more : List Token) → accepted (ts ++ more) ≡ ended (run (state ts) more)
-behind ts more = ap ended (run_append (WantPart 0) ts more)
+behind : (ts more : List Token) → accepted (ts ++ more) ≡ complete (run (state ts) more)
+behind ts more = ap complete (run_append start ts more)
 
-pub ends_lives : (ts : List Token) → ended (state ts) ≡ true → state ts ≢ Lost
-ends_lives ts h e = false≢true (sym (ap ended e) ∙ h)
+-- tokens that led to a state, and how a rule may go on behind them
+module _ (ts : List Token) (q : State) (e : state ts ≡ Some q) where
+  behind_state : (more : List Token) → accepted (ts ++ more) ≡ complete (run (Some q) more)
+  behind_state more = behind ts more ∙ ap (λ o. complete (run o more)) e
 
-pub viable : (ts : List Token) → state ts ≢ Lost → Viable ts
-viable ts h =
-    let c = completion (state ts) h in
-    let t = derived (ts ++ c.0) (behind ts c.0 ∙ c.1) in
-    (c.0, t.0, t.1)
+  viable : Viable ts
+  viable =
+      let c = completion q in
+      let t = derived (ts ++ c.0) (behind_state c.0 ∙ c.1) in
+      (c.0, t.0, t.1)
 
-pub viable_back : (ts : List Token) → Viable ts → state ts ≢ Lost
-viable_back ts v e = never v.0 (sym (ap (λ s. ended (run s v.0)) e) ∙ sym (behind ts v.0) ∙ accepts v.2)
+  refused : (k : Token) → step q k ≡ None → Refused ts k
+  refused k f more t x = never more (sym (ap (λ o. complete (run o more)) f) ∙ sym (behind_state (k ∷ more)) ∙ accepts x)
 
-refused : (ts : List Token) (k : Token) → step (state ts) k ≡ Lost → Refused ts k
-refused ts k e more t x = never more (sym (ap (λ s. ended (run s more)) e) ∙ sym (behind ts (k ∷ more)) ∙ accepts x)
+  refused_back : (k : Token) → Refused ts k → step q k ≡ None
+  refused_back k r = go (step q k) refl
+    where
+      go : (o : Option State) → step q k ≡ o → o ≡ None
+      go None f = refl
+      go (Some v) f =
+          let c = completion v in
+          let t = derived (ts ++ k ∷ c.0) (behind_state (k ∷ c.0) ∙ ap (λ o. complete (run o c.0)) f ∙ c.1) in
+          absurd (r c.0 t.0 t.1)
 
-refused_back : (ts : List Token) (k : Token) → Refused ts k → step (state ts) k ≡ Lost
-refused_back ts k r = go (step (state ts) k) refl
+  no_rule : ended q ≡ false → NoRule ts
+  no_rule f t x = false≢true (sym f ∙ sym (ap complete e) ∙ accepts x)
+
+  no_rule_back : NoRule ts → ended q ≡ false
+  no_rule_back n = false_from_ne_true (ended q) (λ f. let t = derived ts (ap complete e ∙ f) in n t.0 t.1)
+
+viable_back : (ts : List Token) → Viable ts → (q : State) × (state ts ≡ Some q)
+viable_back ts v = go (state ts) refl
   where
-    stuck : (q : State) → step (state ts) k ≡ q → q ≢ Lost → ⊥
-    stuck q e h =
-        let c = completion q h in
-        let a : accepted (ts ++ k ∷ c.0) ≡ true = behind ts (k ∷ c.0) ∙ ap (λ s. ended (run s c.0)) e ∙ c.1 in
-        let t = derived (ts ++ k ∷ c.0) a in
-        r c.0 t.0 t.1
-
-    go : (q : State) → step (state ts) k ≡ q → q ≡ Lost
-    go (WantPart d) e = absurd (stuck (WantPart d) e want_lives)
-    go (HaveName d) e = absurd (stuck (HaveName d) e name_lives)
-    go (WantName d) e = absurd (stuck (WantName d) e second_lives)
-    go (HavePart d) e = absurd (stuck (HavePart d) e part_lives)
-    go Lost e = refl
-
-no_rule : (ts : List Token) → ended (state ts) ≡ false → NoRule ts
-no_rule ts e t x = false≢true (sym e ∙ accepts x)
-
-no_rule_back : (ts : List Token) → NoRule ts → ended (state ts) ≡ false
-no_rule_back ts n = go (ended (state ts)) refl
-  where
-    go : (b : Bool) → ended (state ts) ≡ b → b ≡ false
-    go true e = let t = derived ts e in absurd (n t.0 t.1)
-    go false e = refl
+    go : (o : Option State) → state ts ≡ o → (q : State) × (o ≡ Some q)
+    go None e = absurd (never v.0 (sym (ap (λ o. complete (run o v.0)) e) ∙ sym (behind ts v.0) ∙ accepts v.2))
+    go (Some q) e = (q, refl)
 
 same_cause : {Out In : Token → Type 0} {Undone Done : Type 0} {t : Bool} {p : ℕ} {r : List ℕ} {f : RuleFault}
     → ((k : Token) → Out k → In k) → (Undone → Done) → Cause Out Undone t p r f → Cause In Done t p r f
@@ -78,17 +73,19 @@ faulty bs f x =
       left = x.2;
       joined = x.3;
       spelt = x.4;
-      viable = viable x.0 x.5;
-      cause = same_cause (refused x.0) (no_rule x.0) x.6;
+      viable = viable x.0 x.5 x.6;
+      cause = same_cause (refused x.0 x.5 x.6) (no_rule x.0 x.5 x.6) x.7;
     }
 
 pub faulty_back : (bs : List ℕ) (f : RuleFault) → Faulty bs f → Explained false (WantPart 0) 0 bs f
-faulty_back bs f x = (
-  x.before,
-  x.place,
-  x.left,
-  x.joined,
-  x.spelt,
-  viable_back x.before x.viable,
-  same_cause (refused_back x.before) (no_rule_back x.before) x.cause,
-)
+faulty_back bs f x =
+    let v = viable_back x.before x.viable in (
+      x.before,
+      x.place,
+      x.left,
+      x.joined,
+      x.spelt,
+      v.0,
+      v.1,
+      same_cause (refused_back x.before v.0 v.1) (no_rule_back x.before v.0 v.1) x.cause,
+    )

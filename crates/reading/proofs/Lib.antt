@@ -8,8 +8,8 @@ pub mod Meaning
 pub mod Letters
 pub mod Naming
 pub mod Seen
-pub mod Steps
 pub mod Depths
+pub mod Steps
 pub mod Counted
 pub mod Replies
 pub mod Taken

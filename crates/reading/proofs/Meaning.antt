@@ -16,7 +16,7 @@ use Rattle.reading.specs.Scan.{Scanned, scanned}
 use Rattle.reading.specs.Spells.{Spells}
 use Rattle.reading.specs.declared.fault.RuleFault.TheVariants.{Text, TooManyNodes}
 use Rattle.reading.specs.declared.fault.TextFault.TheVariants.{LineTooLong}
-use Rattle.reading.proofs.Outcomes.{Outcome, outcome, want_lives}
+use Rattle.reading.proofs.Outcomes.{Outcome, outcome}
 use Rattle.reading.proofs.Follows.{explained_back, accepted_back}
 use Rattle.reading.proofs.Grammatical as grammatical
 
@@ -37,11 +37,11 @@ module _ (bs : List ℕ) where
     where
       go : (b : Bool) → ltb 512 (length bs) ≡ b → Answers bs (cond b (Err (Text LineTooLong)) (from_scan (scanned bs)))
       go true e = too_long (ltb-true 512 (length bs) e)
-      go false e = from_outcome (ltb-false 512 (length bs) e) (scanned bs) (outcome (length bs) bs 0 false 0 0 (WantPart 0) want_lives (omega arith) refl (zero-add (length bs)))
+      go false e = from_outcome (ltb-false 512 (length bs) e) (scanned bs) (outcome (length bs) bs 0 false 0 0 (WantPart 0) (omega arith) refl (zero-add (length bs)))
 
   spelt_scan : (ts : List Token) (t : Phrase) → Spells bs ts → Is Rule ts t → scanned bs ≡ Ok ts
   spelt_scan ts t x y =
-      accepted_back false x.0 (WantPart 0) 0 (length bs) bs ts x.1 (accepts y) (grammatical.ends_lives ts (accepts y))
+      accepted_back false x.0 (WantPart 0) 0 (length bs) bs ts x.1 (accepts y)
 
   short : (r : Scanned) → length bs ≤ 512 → scanned bs ≡ r → reading bs ≡ from_scan r
   short r l e = cond-false (ltb 512 (length bs)) _ _ (le-ltb 512 (length bs) l) ∙ ap from_scan e

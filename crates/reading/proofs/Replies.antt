@@ -18,7 +18,7 @@ use Rattle.reading.specs.declared.fault.TextFault.{TextFault}
 use Rattle.reading.specs.declared.fault.TextFault.TheVariants.{LineTooLong}
 use Rattle.reading.proofs.Counted.{spelt_rising}
 use Rattle.reading.proofs.Meaning.{answered, only}
-use Rattle.reading.proofs.Outcomes.{Outcome, outcome, want_lives}
+use Rattle.reading.proofs.Outcomes.{Outcome, outcome}
 
 -- what the call owes of its answer
 abbrev pub Owed : List ℕ → Answer → Type 0
@@ -31,7 +31,7 @@ pub fits : (bs : List ℕ) → fitting bs ≡ Ok tt → length bs ≤ 512
 fits bs e = go (ltb 512 (length bs)) refl e
   where
     go : (t : Bool) → ltb 512 (length bs) ≡ t → ◌≡◌ {A = Result (Unit {0}) TextFault} (cond t (Err LineTooLong) (Ok tt)) (Ok tt) → length bs ≤ 512
-    go true f g = absurd (let z : ◌≡◌ {A = ℕ} 0 1 = cc in let y : ⊥ = omega arith in y)
+    go true f g = absurd (let z : ⊥ = cc in z)
     go false f g = ltb-false 512 (length bs) f
 
 pub unfit : (bs : List ℕ) (f : TextFault) → fitting bs ≡ Err f → Owed bs (Err (Text f))
@@ -41,7 +41,7 @@ unfit bs f e = go (ltb 512 (length bs)) refl e
     go true g h =
         let s : LineTooLong ≡ f = cc in
         owed bs (Err (Text f)) (ap (λ x. Err (Text x)) (sym s) ∙ sym (cond-true (ltb 512 (length bs)) _ _ g))
-    go false g h = absurd (let z : ◌≡◌ {A = ℕ} 0 1 = cc in let y : ⊥ = omega arith in y)
+    go false g h = absurd (let z : ⊥ = cc in z)
 
 module _ (bs : List ℕ) (l : length bs ≤ 512) where
   short : reading bs ≡ from_scan (scanned bs)
@@ -55,7 +55,7 @@ module _ (bs : List ℕ) (l : length bs ≤ 512) where
     pub well : (accepted ts ≡ true) × Rising 0 512 ts
     well =
         let o : Outcome (length bs) false (WantPart 0) 0 bs (Ok ts) =
-        subst (Outcome (length bs) false (WantPart 0) 0 bs) (sym e) (outcome (length bs) bs 0 false 0 0 (WantPart 0) want_lives (omega arith) refl (zero-add (length bs))) in
+        subst (Outcome (length bs) false (WantPart 0) 0 bs) (sym e) (outcome (length bs) bs 0 false 0 0 (WantPart 0) (omega arith) refl (zero-add (length bs))) in
         (o.1, spelt_rising o.0.1 512 (omega arith))
 
     from_here : reading bs ≡ cond (ltb 32 (words ts)) (Err (TooManyNodes (words ts))) (from_parse (parse ts))

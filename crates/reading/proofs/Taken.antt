@@ -1,6 +1,6 @@
 -- What is known of every line that is taken.
-use Rattle.std.proofs.Common.{◌≡◌, ℕ, ◌<◌, ◌≤◌, Bool, true, eqb, leb, List, [], ◌∷◌, length, Ok, Err, sym, refl, ap, ◌∙◌, subst, ⊎_elim, arith}
-use Rattle.std.proofs.lemmas.Bool.{cases_lt, leb-true, eqb-true}
+use Rattle.std.proofs.Common.{◌≡◌, ℕ, zero, suc, ◌<◌, ◌≤◌, Bool, true, false, List, [], ◌∷◌, length, Ok, Err, sym, refl, ap, ◌∙◌, subst, ⊎_elim, arith}
+use Rattle.std.proofs.lemmas.Bool.{false≢true, cases_lt}
 use Rattle.std.specs.List.{AllByRecursion}
 use Rattle.formula.specs.Formulas.{formula_tree}
 use Rattle.formula.specs.Tree.{size}
@@ -15,31 +15,22 @@ use Rattle.grammar.specs.Words.{words, token_names}
 use Rattle.grammar.proofs.Numbering.{listed_once, listed_all}
 use Rattle.grammar.proofs.Said.{size_numbered, word_nodes, names_in_line}
 use Rattle.reading.specs.Answers.{Answer, Answers, too_long, faulty, too_many, taken}
-use Rattle.reading.specs.Bytes.{both, either, upper, plain, with, not, and, or, then}
+use Rattle.reading.specs.Bytes.{upper, plain, with, not, and, or, then}
 use Rattle.reading.specs.Decoding.{Runs, stops, itself, ampersand, reference}
 use Rattle.reading.specs.Lines.{IsStored, WellRead}
 use Rattle.reading.specs.Spells.{Spells, Spelt, here, space, token, TokenAt, opens, closes, word, name}
 use Rattle.reading.specs.declared.fault.RuleFault.{RuleFault}
 use Rattle.reading.proofs.Replies.{Owed}
-use Rattle.grammar.proofs.Same.{both_cases}
-use Rattle.reading.proofs.Tests.{either_cases}
 
 -- bytes of names are not 0
-upper_pos : (b : ℕ) → upper b ≡ true → 0 < b
-upper_pos b h = let l = leb-true 65 b (both_cases (leb 65 b) (leb b 90) h).0 in omega arith
-
-plain_pos : (b : ℕ) → plain b ≡ true → 0 < b
-plain_pos b h = ⊎_elim
-    (λ u. upper_pos b u)
-    (λ r. ⊎_elim
-    (λ d. let l = leb-true 48 b (both_cases (leb 48 b) (leb b 57) d).0 in let z : 0 < b = omega arith in z)
-    (λ m. let e = eqb-true b 45 m in let z : 0 < b = omega arith in z)
-    (either_cases (both (leb 48 b) (leb b 57)) (eqb b 45) r))
-    (either_cases (upper b) (either (both (leb 48 b) (leb b 57)) (eqb b 45)) h)
+-- a test that 0 fails
+positive : (f : ℕ → Bool) → f 0 ≡ false → (b : ℕ) → f b ≡ true → 0 < b
+positive f e zero h = absurd (false≢true (sym e ∙ h))
+positive f e (suc b) h = omega arith
 
 runs_pos : {sp : List (List ℕ)} {bs r n : List ℕ} → Runs sp bs r n → AllByRecursion (λ b. 0 < b) n
 runs_pos (stops e) = tt
-runs_pos (itself {b = b} h x) = (plain_pos b h, runs_pos x)
+runs_pos (itself {b = b} h x) = (positive plain refl b h, runs_pos x)
 runs_pos (ampersand e x) = ((let z : 0 < 38 = omega arith in z), runs_pos x)
 runs_pos (reference e x) = ((let z : 0 < 38 = omega arith in z), runs_pos x)
 
@@ -53,7 +44,7 @@ named (word and e) ts h = h
 named (word or e) ts h = h
 named (word then e) ts h = h
 named (name {b = b} {n = n} u x l) ts h =
-    ((b ∷ n, record { few = omega arith; no_zero = (upper_pos b u, runs_pos x) }, refl), h)
+    ((b ∷ n, record { few = omega arith; no_zero = (positive upper refl b u, runs_pos x) }, refl), h)
 
 spelt_names : {end : ℕ} {r : List ℕ} {t u : Bool} {q : ℕ} {bs : List ℕ} {ts : List Token} → Spelt end r t u q bs ts → AllByRecursion IsStored (token_names ts)
 spelt_names here = tt
@@ -72,7 +63,7 @@ ok_same : {x y : Reading} → ◌≡◌ {A = Answer} (Ok x) (Ok y) → x ≡ y
 ok_same e = cc
 
 err_ok : {f : RuleFault} {x : Reading} → ◌≡◌ {A = Answer} (Err f) (Ok x) → ⊥
-err_ok e = let z : ◌≡◌ {A = ℕ} 0 1 = cc in omega arith
+err_ok e = cc
 
 came : (bs : List ℕ) (a : Answer) (x : Reading) → Answers bs a → a ≡ Ok x → Came bs x
 came bs a x (too_long l) e = absurd (err_ok e)

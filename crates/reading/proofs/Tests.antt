@@ -1,45 +1,29 @@
 -- Tests of bytes, and what they come to.
-use Rattle.std.proofs.Common.{◌≡◌, ℕ, Bool, true, false, cond, eqb, leb, ◌≢◌, ◌⊎◌, sym, refl, ap, ◌∙◌, subst, inl, inr, ⊎_elim, arith}
+use Rattle.std.proofs.Common.{◌≡◌, ℕ, Bool, true, false, cond, eqb, leb, ◌≢◌, ◌||◌, ◌⊎◌, sym, refl, ap, ◌∙◌, subst, inl, inr, ⊎_elim, arith}
 use mathlib.Core.Bool.{false≢true}
-use Rattle.std.proofs.lemmas.Bool.{eqb-true, leb-true, lt-leb, cond-true, cond-false}
-use Rattle.grammar.proofs.Same.{both_cases}
-use Rattle.reading.specs.Bytes.{both, either, lower, upper, edge}
+use Rattle.std.proofs.lemmas.Bool.{and_parts, and_left, or_cases, false_from_ne_true, eqb-true, leb-true, lt-leb, cond-true, cond-false}
+use Rattle.reading.specs.Bytes.{lower, upper, edge}
 use Rattle.reading.specs.Scan.{Kind, gap, opening, closing, small, big, strange, kind}
 
 pub inv_cond : {X : Type 0} (b : Bool) {x y z : X} → cond b x y ≡ z → ((b ≡ true) × (x ≡ z)) ⊎ ((b ≡ false) × (y ≡ z))
 inv_cond true e = inl (refl, e)
 inv_cond false e = inr (refl, e)
 
-pub either_cases : (a b : Bool) → either a b ≡ true → (a ≡ true) ⊎ (b ≡ true)
-either_cases true b e = inl refl
-either_cases false b e = inr e
-
-pub either_none : (a b : Bool) → a ≡ false → b ≡ false → either a b ≡ false
-either_none a b p q = ap (λ x. either x b) p ∙ q
-
-pub neither : (a b : Bool) → either a b ≡ false → (a ≡ false) × (b ≡ false)
-neither true b e = absurd (false≢true (sym e))
-neither false b e = (refl, e)
-
 -- a test that would make another come out wrong is false
 pub unlike : (f : ℕ → Bool) (b c : ℕ) → f b ≡ true → f c ≡ false → eqb b c ≡ false
-unlike f b c h g = go (eqb b c) refl
-  where
-    go : (t : Bool) → eqb b c ≡ t → t ≡ false
-    go true e = absurd (false≢true (sym g ∙ ap f (sym (eqb-true b c e)) ∙ h))
-    go false e = refl
+unlike f b c h g = false_from_ne_true (eqb b c) (λ e. false≢true (sym g ∙ ap f (sym (eqb-true b c e)) ∙ h))
 
 -- a space or a parenthesis
 pub edge_is : (b : ℕ) → edge b ≡ true → (P : ℕ → Type 0) → P 32 → P 40 → P 41 → P b
 edge_is b e P x y z = ⊎_elim
-    (λ h. subst P (sym (eqb-true b 32 h)) x)
-    (λ h. ⊎_elim (λ g. subst P (sym (eqb-true b 40 g)) y) (λ g. subst P (sym (eqb-true b 41 g)) z) (either_cases (eqb b 40) (eqb b 41) h))
-    (either_cases (eqb b 32) (either (eqb b 40) (eqb b 41)) e)
+    (λ h. ⊎_elim (λ g. subst P (sym (eqb-true b 32 g)) x) (λ g. subst P (sym (eqb-true b 40 g)) y) (or_cases (eqb b 32) (eqb b 40) h))
+    (λ h. subst P (sym (eqb-true b 41 h)) z)
+    (or_cases (eqb b 32 || eqb b 40) (eqb b 41) e)
 
 upper_lower : (b : ℕ) → upper b ≡ true → lower b ≡ false
 upper_lower b h =
-    let below = leb-true b 90 (both_cases (leb 65 b) (leb b 90) h).1 in
-    ap (λ t. both t (leb b 122)) (lt-leb 97 b (omega arith))
+    let below = leb-true b 90 (and_parts (leb 65 b) (leb b 90) h).1 in
+    and_left (leb 97 b) (leb b 122) (lt-leb 97 b (omega arith))
 
 pub lower_kind : (b : ℕ) → lower b ≡ true → kind b ≡ small
 lower_kind b h =
@@ -95,11 +79,7 @@ solid big = true
 solid strange = true
 
 pub edge_inner : (b : ℕ) → inner (kind b) ≡ true → edge b ≡ false
-edge_inner b h = go (edge b) refl
-  where
-    go : (t : Bool) → edge b ≡ t → t ≡ false
-    go true e = absurd (edge_is b e (λ x. inner (kind x) ≡ true → ⊥) false≢true false≢true false≢true h)
-    go false e = refl
+edge_inner b h = false_from_ne_true (edge b) (λ e. edge_is b e (λ x. inner (kind x) ≡ true → ⊥) false≢true false≢true false≢true h)
 
 pub inner_edge : (b : ℕ) → edge b ≡ false → inner (kind b) ≡ true
 inner_edge b e = go (eqb b 32) refl (eqb b 40) refl (eqb b 41) refl

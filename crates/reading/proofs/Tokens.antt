@@ -1,5 +1,6 @@
 -- Tokens as they are found, and as they are spelt.
-use Rattle.std.proofs.Common.{◌≡◌, ℕ, ◌≤◌, Bool, true, false, cond, leb, List, [], ◌∷◌, ◌++◌, length, drop, Some, None, Option, sym, refl, ap, ◌∙◌, subst, ⊎_elim, append-nil, arith}
+use Rattle.std.proofs.Common.{◌≡◌, ℕ, ◌≤◌, Bool, true, false, cond, leb, List, [], ◌∷◌, ◌++◌, length, drop, Some, None, Option, sym, refl, ap, ◌∙◌, subst, ⊎_elim, append-nil, arith, length-append}
+use Rattle.std.proofs.Math.Seq.{drop-append_seam}
 use Rattle.std.proofs.lemmas.Bool.{cond-true, cond-false, le-leb, lt-leb, leb-true, leb-false}
 use Rattle.grammar.specs.declared.token.Token.{Token}
 use Rattle.grammar.specs.declared.token.Token.TheVariants.{Open, Close, Name}
@@ -30,9 +31,6 @@ run_stops (b ∷ r) e = cond-false (lower b) _ _ e
 some_word : {v w : Word} → Some v ≡ Some w → v ≡ w
 some_word e = cc
 
-none_word : {w : Word} → None ≡ Some w → ⊥
-none_word e = let z : ◌≡◌ {A = ℕ} 0 1 = cc in omega arith
-
 word_try : (ws : List ℕ) (v w : Word) (o : Option Word) → cond (same ws (letters v)) (Some v) o ≡ Some w → (o ≡ Some w → ws ≡ letters w) → ws ≡ letters w
 word_try ws v w o e f = ⊎_elim
     (λ h. same_is ws (letters v) h.0 ∙ ap letters (some_word h.1))
@@ -41,25 +39,7 @@ word_try ws v w o e f = ⊎_elim
 
 pub word_of_is : (ws : List ℕ) (w : Word) → word_of ws ≡ Some w → ws ≡ letters w
 word_of_is ws w e =
-    word_try ws with w _ e (λ e₁. word_try ws not w _ e₁ (λ e₂. word_try ws and w _ e₂ (λ e₃. word_try ws or w _ e₃ (λ e₄. word_try ws then w _ e₄ (λ e₅. absurd (none_word e₅))))))
-
-pub none_got : {k : Token} {n : ℕ} → none ≡ got k n → ⊥
-none_got e = let z : ◌≡◌ {A = ℕ} 0 1 = cc in omega arith
-
-pub over_got : {k : Token} {n : ℕ} → over ≡ got k n → ⊥
-over_got e = let z : ◌≡◌ {A = ℕ} 0 1 = cc in omega arith
-
-pub none_over : none ≡ over → ⊥
-none_over e = let z : ◌≡◌ {A = ℕ} 0 1 = cc in omega arith
-
-got_over : {k : Token} {n : ℕ} → got k n ≡ over → ⊥
-got_over e = let z : ◌≡◌ {A = ℕ} 0 1 = cc in omega arith
-
-got_token : {j k : Token} {m n : ℕ} → got j m ≡ got k n → j ≡ k
-got_token e = cc
-
-got_count : {j k : Token} {m n : ℕ} → got j m ≡ got k n → m ≡ n
-got_count e = cc
+    word_try ws with w _ e (λ e₁. word_try ws not w _ e₁ (λ e₂. word_try ws and w _ e₂ (λ e₃. word_try ws or w _ e₃ (λ e₄. word_try ws then w _ e₄ (λ e₅. cc e₅)))))
 
 -- a token that is found is spelt
 abbrev pub Found : ℕ → ℕ → List ℕ → Lexeme → Type 0
@@ -106,14 +86,6 @@ pub record Lexed (at : ℕ) (xs : List ℕ) (k : Token) (r : List ℕ) : Type 0 
   pub leaves : drop count others ≡ r
   pub no_space : solid (kind first) ≡ true
 
-drop_all_of : (p r : List ℕ) → drop (length p) (p ++ r) ≡ r
-drop_all_of [] r = refl
-drop_all_of (x ∷ p) r = drop_all_of p r
-
-length_left : (p r : List ℕ) → length p ≤ length (p ++ r)
-length_left [] r = omega arith
-length_left (x ∷ p) r = let h = length_left p r in omega arith
-
 lexed_word : (at : ℕ) (w : Word) (b : ℕ) (t r : List ℕ) → kind b ≡ small → ((z : List ℕ) → run_of (t ++ z) ≡ t ++ run_of z) → word_of (b ∷ t) ≡ Some w
     → WordEnds r → Lexed at (b ∷ (t ++ r)) (word_token w at) r
 lexed_word at w b t r k f g e =
@@ -126,8 +98,8 @@ lexed_word at w b t r k f g e =
       is = ap (λ y. lexeme at y b (t ++ r)) k
           ∙ ap (λ y. worded at (length y) (word_of (b ∷ y))) z
           ∙ ap (worded at (length t)) g;
-      fits = length_left t r;
-      leaves = drop_all_of t r;
+      fits = omega (arith, length-append t r);
+      leaves = drop-append_seam t r;
       no_space = ap solid k;
     }
 
@@ -166,10 +138,10 @@ pub none_spelt : (at b : ℕ) (bs : List ℕ) → lexeme at (kind b) b bs ≡ no
 none_spelt at b bs e k r x =
     let g = lexed x in
     let f : lexeme at (kind b) b bs ≡ got k g.count = subst (λ (y : ℕ × List ℕ). lexeme at (kind y.0) y.0 y.1 ≡ got k g.count) (head_tail (sym g.split)) g.is in
-    none_got (sym e ∙ f)
+    let z : ⊥ = cc (sym e ∙ f) in z
   where
     head_tail : {x y : ℕ} {xs ys : List ℕ} → x ∷ xs ≡ y ∷ ys → ◌≡◌ {A = ℕ × List ℕ} (x, xs) (y, ys)
     head_tail e = cc
 
 pub none_long : (at b : ℕ) (bs : List ℕ) → lexeme at (kind b) b bs ≡ none → LongName (b ∷ bs) → ⊥
-none_long at b bs e h = none_over (sym e ∙ long_over at b bs h)
+none_long at b bs e h = let z : ⊥ = cc (sym e ∙ long_over at b bs h) in z

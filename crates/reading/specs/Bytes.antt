@@ -1,29 +1,23 @@
 -- The bytes of a line, by what they can be part of. Rests on nothing.
-use Rattle.std.specs.Prelude.{◌≡◌, ℕ, Bool, true, false, cond, List, [], ◌∷◌, ◌==◌, nat_le}
+use Rattle.std.specs.Prelude.{◌≡◌, ℕ, Bool, true, false, ◌&&◌, ◌||◌, List, [], ◌∷◌, ◌==◌, nat_le}
 use Rattle.grammar.specs.declared.token.Token.{Token}
 use Rattle.grammar.specs.declared.token.Token.TheVariants.{Open, Close, Name, With, Not, And, Or, Then}
 
-abbrev pub both : Bool → Bool → Bool
-both a b = cond a b false
-
-abbrev pub either : Bool → Bool → Bool
-either a b = cond a true b
-
 -- a to z
 abbrev pub lower : ℕ → Bool
-lower b = both (nat_le 97 b) (nat_le b 122)
+lower b = nat_le 97 b && nat_le b 122
 
 -- A to Z
 abbrev pub upper : ℕ → Bool
-upper b = both (nat_le 65 b) (nat_le b 90)
+upper b = nat_le 65 b && nat_le b 90
 
 -- what stands for itself inside a name: A to Z, 0 to 9 and `-`
 abbrev pub plain : ℕ → Bool
-plain b = either (upper b) (either (both (nat_le 48 b) (nat_le b 57)) (b == 45))
+plain b = upper b || (nat_le 48 b && nat_le b 57) || b == 45
 
 -- what may stand after a word or a name: a space or a parenthesis
 abbrev pub edge : ℕ → Bool
-edge b = either (b == 32) (either (b == 40) (b == 41))
+edge b = b == 32 || b == 40 || b == 41
 
 -- a space, a parenthesis or the end comes next
 abbrev pub Edge : List ℕ → Type 0

@@ -1,5 +1,5 @@
 -- Worked examples of lines, taken and refused, as one statement. Rests on Reading.
-use Rattle.std.specs.Prelude.{◌≡◌, ℕ, zero, suc, List, [], ◌∷◌, ◌++◌, Ok, Err, codes}
+use Rattle.std.specs.Prelude.{◌≡◌, ℕ, List, [], ◌∷◌, ◌++◌, Ok, Err, codes, replicate}
 use Rattle.formula.specs.declared.node.Pair.{Pair}
 use Rattle.formula.specs.Tree.{Tree, leaf, not, and, or, then}
 use Rattle.grammar.specs.declared.name.Named.{Named}
@@ -22,11 +22,6 @@ at p n = record { place = p; name = stored n }
 
 abbrev pub pair : ℕ → ℕ → ℕ → Tree (Pair ℕ)
 pair p i j = leaf (record { place = p; first = i; second = j })
-
--- a byte so many times
-abbrev pub times : ℕ → ℕ → List ℕ
-times zero b = []
-times (suc n) b = b ∷ times n b
 
 pub record Examples : Type 0 where
   -- `A wiht B`
@@ -77,8 +72,8 @@ pub record Examples : Type 0 where
   pub refused_empty : Refused [] (OutOfGrammar 0)
   pub refused_return : Refused (codes "A with B" ++ 13 ∷ []) (Text (WrongByte 8))
   -- 512 spaces, and 513
-  pub refused_spaces : Refused (times 512 32) (OutOfGrammar 512)
-  pub refused_long : Refused (times 513 32) (Text LineTooLong)
+  pub refused_spaces : Refused (replicate 512 32) (OutOfGrammar 512)
+  pub refused_long : Refused (replicate 513 32) (Text LineTooLong)
   -- 33 words that fit
   pub refused_many : Refused (codes "A with A and A with A and A with A and A with A and A with A and A with A and A with A and A with A and A with A and A with A and A with A and A with A and A with A and A with A and A with A and A with A and A with A") (TooManyNodes 33)
   -- `ST-1 with S&amp;L-4`
@@ -104,4 +99,4 @@ pub record Examples : Type 0 where
   -- `A with B or B with C and not C with A`
   pub taken_11 : Taken (codes "A with B or B with C and not C with A") (or 9 (pair 2 0 1) (and 21 (pair 14 1 2) (not 25 (pair 31 2 0)))) (at 0 (codes "A") ∷ at 7 (codes "B") ∷ at 19 (codes "C") ∷ [])
   -- 252 parentheses around `A with B`
-  pub taken_deep : Taken (times 252 40 ++ (codes "A with B" ++ times 252 41)) (pair 254 0 1) (at 252 (codes "A") ∷ at 259 (codes "B") ∷ [])
+  pub taken_deep : Taken (replicate 252 40 ++ (codes "A with B" ++ replicate 252 41)) (pair 254 0 1) (at 252 (codes "A") ∷ at 259 (codes "B") ∷ [])

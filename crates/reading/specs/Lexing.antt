@@ -1,16 +1,15 @@
 -- The pass over a line in the program's own steps. Rests on Scan.
-use Rattle.std.specs.Prelude.{ℕ, ◌+◌, Bool, false, cond, List, [], ◌∷◌, length, drop, Some, None, Ok, Err, Option, Result, ◌==◌, nat_le, slice_index}
+use Rattle.std.specs.Prelude.{ℕ, ◌+◌, Bool, false, cond, ◌&&◌, ◌||◌, List, [], ◌∷◌, length, drop, Some, None, Ok, Err, Option, Result, ◌==◌, nat_le, slice_index}
 use Rattle.formula.specs.Held.{held}
 use Rattle.formula.specs.declared.bounded.Bounded.{Bounded}
-use Rattle.grammar.specs.declared.state.State.{State}
-use Rattle.grammar.specs.declared.state.State.TheVariants.{WantPart, HaveName, WantName, HavePart, Lost}
+use Rattle.grammar.specs.declared.name.Name.{Name}
 use Rattle.grammar.specs.declared.token.Token.{Token}
-use Rattle.reading.specs.Bytes.{both, either, plain, edge, Word, word_token}
+use Rattle.grammar.specs.Names.{stored}
+use Rattle.reading.specs.Bytes.{plain, edge, Word, word_token}
 use Rattle.reading.specs.Scan.{Lexeme, none, over, got, kind, lexeme, Scanned}
 use Rattle.reading.specs.declared.fault.TextFault.{TextFault}
 use Rattle.reading.specs.declared.fault.TextFault.TheVariants.{WrongByte, NameTooLong}
 use Rattle.reading.specs.declared.fault.RuleFault.{RuleFault}
-use Rattle.reading.specs.declared.fault.RuleFault.TheVariants.{OutOfGrammar}
 
 -- a word as a token at its place
 abbrev pub word_at : ℕ → Option Word → Option Token
@@ -19,12 +18,16 @@ word_at at (Some w) = Some (word_token w at)
 
 -- `&amp;` comes first
 abbrev pub amp : List ℕ → Bool
-amp bs = both (nat_le 5 (length bs)) (both (slice_index bs 0 == 38) (both (slice_index bs 1 == 97) (both (slice_index bs 2 == 109) (both (slice_index bs 3 == 112) (slice_index bs 4 == 59)))))
+amp bs = nat_le 5 (length bs) && (slice_index bs 0 == 38 && (slice_index bs 1 == 97 && (slice_index bs 2 == 109 && (slice_index bs 3 == 112 && slice_index bs 4 == 59))))
 
 -- the next byte of a name, and what stands behind its spelling
 abbrev pub letter_of : List ℕ → Option (ℕ × List ℕ)
 letter_of [] = None
-letter_of (b ∷ bs) = cond (amp (b ∷ bs)) (Some (38, drop 4 bs)) (cond (either (b == 38) (plain b)) (Some (b, bs)) None)
+letter_of (b ∷ bs) = cond (amp (b ∷ bs)) (Some (38, drop 4 bs)) (cond (b == 38 || plain b) (Some (b, bs)) None)
+
+-- a name with this first letter, and how many bytes it has behind it; none where it has more than twelve decoded bytes
+abbrev pub name_of : ℕ → List ℕ × ℕ → Option (Name × ℕ)
+name_of b p = cond (nat_le 12 (length p.0)) None (Some (stored (b ∷ p.0), p.1))
 
 -- a token with the number of its bytes, or the fault
 abbrev pub seen : ℕ → Lexeme → Result (Token × ℕ) TextFault
@@ -44,14 +47,6 @@ edge_first (b ∷ bs) = edge b
 -- the token that comes first; behind a word or a name only an edge may come
 abbrev pub checked_at : Bool → ℕ → List ℕ → Result (Token × ℕ) TextFault
 checked_at t at bs = cond t (cond (edge_first bs) (seen_at at bs) (Err (WrongByte at))) (seen_at at bs)
-
--- the state behind a token, where the grammar takes it
-abbrev pub given_of : ℕ → State → Result State RuleFault
-given_of at (WantPart d) = Ok (WantPart d)
-given_of at (HaveName d) = Ok (HaveName d)
-given_of at (WantName d) = Ok (WantName d)
-given_of at (HavePart d) = Ok (HavePart d)
-given_of at Lost = Err (OutOfGrammar at)
 
 -- the tokens that a program holds
 abbrev pub held_tokens : Result (Bounded Token 512) RuleFault → Scanned

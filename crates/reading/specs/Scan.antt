@@ -1,7 +1,7 @@
 -- One pass over a line: its tokens, or its leftmost fault. Rests on Bytes, Decoding and Automaton of crate grammar.
 use Rattle.std.specs.Prelude.{ℕ, zero, suc, ◌+◌, Bool, false, cond, List, [], ◌∷◌, ◌++◌, length, Some, None, Ok, Err, Option, Result, ◌==◌, nat_le}
 use Rattle.grammar.specs.declared.state.State.{State}
-use Rattle.grammar.specs.declared.state.State.TheVariants.{WantPart, HaveName, WantName, HavePart, Lost}
+use Rattle.grammar.specs.declared.state.State.TheVariants.{WantPart}
 use Rattle.grammar.specs.declared.token.Token.{Token}
 use Rattle.grammar.specs.declared.token.Token.TheVariants.{Open, Close, Name}
 use Rattle.grammar.specs.Automaton.{step, ended}
@@ -79,13 +79,10 @@ abbrev pub prefixed : List Token → Scanned → Scanned
 prefixed ts (Ok ks) = Ok (ts ++ ks)
 prefixed ts (Err f) = Err f
 
--- a token that the grammar takes; s is the state behind it
-abbrev pub allowed : ℕ → Token → State → Scanned → Scanned
-allowed at k (WantPart d) r = prefixed (k ∷ []) r
-allowed at k (HaveName d) r = prefixed (k ∷ []) r
-allowed at k (WantName d) r = prefixed (k ∷ []) r
-allowed at k (HavePart d) r = prefixed (k ∷ []) r
-allowed at k Lost r = Err (OutOfGrammar at)
+-- a token, with the state behind it where the grammar takes it
+abbrev pub allowed : ℕ → Token → Option State → (State → Scanned) → Scanned
+allowed at k None go = Err (OutOfGrammar at)
+allowed at k (Some q) go = prefixed (k ∷ []) (go q)
 
 -- the rest of the pass, given how many bytes to skip, whether a word or a name ends there, and the state
 abbrev pub Go : Type 0
@@ -95,7 +92,7 @@ Go = ℕ → Bool → State → Scanned
 abbrev pub taken : ℕ → State → Lexeme → Go → Scanned
 taken at s none go = Err (Text (WrongByte at))
 taken at s over go = Err (Text (NameTooLong at))
-taken at s (got k n) go = allowed at k (step s k) (go n (tight k) (step s k))
+taken at s (got k n) go = allowed at k (step s k) (go n (tight k))
 
 -- right behind a word or a name only an edge may come
 abbrev pub moved : Bool → ℕ → State → Kind → Lexeme → Go → Scanned

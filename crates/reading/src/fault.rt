@@ -1,6 +1,8 @@
-ghost use Rattle.std.specs.Prelude.{◌≡◌};
+ghost use Rattle.std.specs.Prelude.{◌≡◌, Some};
 ghost use Rattle.reading.specs.Numbers.{number_of, carried_of, layer_of, layer_word};
 ghost use Rattle.reading.specs.declared.fault.RuleFault.TheVariants.{Text};
+
+use std::fmt;
 
 /// What is wrong with the text of a line.
 #[derive(Clone, Copy, Debug)]
@@ -84,5 +86,13 @@ impl Layer {
             Layer::Text => "text",
             Layer::Rule => "rule",
         }
+    }
+}
+
+impl fmt::Display for Layer {
+    ghost output = { λ l. Some (layer_word l) };
+
+    fn fmt<W: fmt::Write>(&self, f: &mut fmt::Formatter<W>) -> fmt::Result {
+        f.write_str(self.word())
     }
 }

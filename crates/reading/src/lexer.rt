@@ -1,12 +1,11 @@
-ghost use Rattle.std.specs.Prelude.{◌≡◌, ℕ, ◌+◌, ◌<◌, ◌≤◌, List, ◌∷◌, length, Some, None, MatchOption, ◌==◌};
-ghost use Rattle.grammar.specs.Names.{pad};
-ghost use Rattle.reading.specs.Bytes.{either, lower, plain};
+ghost use Rattle.std.specs.Prelude.{◌≡◌, ℕ, List, length, Some, None, MatchOption, IfSome, IfOk, ◌<◌, ◌≤◌, ◌==◌, ◌||◌};
+ghost use Rattle.reading.specs.Bytes.{plain};
 ghost use Rattle.reading.specs.Decoding.{spellings};
 ghost use Rattle.reading.specs.Scan.{run_of, word_of, decoded};
-ghost use Rattle.reading.specs.Lexing.{word_at, letter_of, seen_at};
+ghost use Rattle.reading.specs.Lexing.{word_at, letter_of, name_of, seen_at};
 
 use crate::fault::TextFault;
-use grammar::name::{Name, Named, same_bytes};
+use grammar::name::{Name, Named};
 use grammar::token::Token;
 
 /// A name has at most so many decoded bytes.
@@ -14,15 +13,9 @@ const NAME_BYTES: usize = 12;
 
 /// Whether a name runs on over a byte.
 fn in_name(b: u8) -> bool
-    ensures { result ≡ either (b == 38) (plain b) }
+    ensures { result ≡ (b == 38 || plain b) }
 {
     matches!(b, b'A'..=b'Z' | b'0'..=b'9' | b'-' | b'&')
-}
-
-fn is_lower(b: u8) -> bool
-    ensures { result ≡ lower b }
-{
-    matches!(b, b'a'..=b'z')
 }
 
 /// How many letters a to z come first.
@@ -30,29 +23,20 @@ fn run(rest: &[u8]) -> usize
     ensures value { result ≡ length (run_of rest.now) }
     ensures within { result ≤ length rest.now }
 {
-    let mut n = 0;
-    while n < rest.len() && is_lower(rest[n]) {
-        n += 1;
-    }
-    n
+    rest.iter().take_while(|b| b.is_ascii_lowercase()).count()
 }
 
 /// The word that the letters are, at its place.
 fn word(letters: &[u8], at: usize) -> Option<Token>
     ensures { result ≡ word_at at (word_of letters.now) }
 {
-    if same_bytes(letters, b"with") {
-        Some(Token::With(at))
-    } else if same_bytes(letters, b"not") {
-        Some(Token::Not(at))
-    } else if same_bytes(letters, b"and") {
-        Some(Token::And(at))
-    } else if same_bytes(letters, b"or") {
-        Some(Token::Or(at))
-    } else if same_bytes(letters, b"then") {
-        Some(Token::Then(at))
-    } else {
-        None
+    match letters {
+        b"with" => Some(Token::With(at)),
+        b"not" => Some(Token::Not(at)),
+        b"and" => Some(Token::And(at)),
+        b"or" => Some(Token::Or(at)),
+        b"then" => Some(Token::Then(at)),
+        _ => None,
     }
 }
 
@@ -67,65 +51,48 @@ fn letter(rest: &[u8]) -> Option<(u8, &[u8])>
     }
 }
 
-/// A name as it is read: its bytes as stored, how many it has decoded, and how many bytes spell them.
-#[derive(Drop)]
-struct Spelling {
-    bytes: [u8; 12],
-    decoded: usize,
-    written: usize,
-}
-
-/// The name with this first letter that runs on over a text.
-fn name(first: u8, text: &[u8]) -> Spelling
-    requires short { length text.now ≤ 512 }
-    ensures bytes { result.bytes ≡ pad 12 (first ∷ (decoded spellings 0 text.now).0) }
-    ensures decoded { result.decoded ≡ length (decoded spellings 0 text.now).0 + 1 }
-    ensures written { result.written ≡ (decoded spellings 0 text.now).1 + 1 }
+/// The name with this first letter that runs on over a text, and how many bytes it has there. None where it has
+/// more than twelve decoded bytes.
+fn name(first: u8, text: &[u8]) -> Option<(Name, usize)>
+    ensures value { result ≡ name_of first (decoded spellings 0 text.now) }
+    ensures within { IfSome result (λ p. p.1 ≤ length text.now) }
 {
+    // A name is stored in an array of twelve, which is filled in place.
     let mut bytes = [0u8; NAME_BYTES];
     bytes[0] = first;
     let mut decoded = 1;
     let mut rest = text;
     while let Some((b, tail)) = letter(rest) {
-        if decoded < NAME_BYTES {
-            bytes[decoded] = b;
+        if decoded >= NAME_BYTES {
+            return None;
         }
+        bytes[decoded] = b;
         decoded += 1;
         rest = tail;
     }
-    let written = text.len() - rest.len() + 1;
-    Spelling {
-        bytes,
-        decoded,
-        written,
-    }
+    Some((Name::new(bytes), text.len() - rest.len()))
 }
 
 /// The token that comes first at a place, and how many bytes it has.
+///
+/// The text and its place stay two parameters: each arm looks at the one and answers with the other.
 pub(crate) fn token(rest: &[u8], at: usize) -> Result<(Token, usize), TextFault>
-    requires short { length rest.now ≤ 512 }
-    ensures { result ≡ seen_at at rest.now }
+    ensures value { result ≡ seen_at at rest.now }
+    ensures size { IfOk result (λ p. (0 < p.1) × (p.1 ≤ length rest.now)) }
 {
     match rest {
         [b'(', ..] => Ok((Token::Open, 1)),
         [b')', ..] => Ok((Token::Close, 1)),
         [b'a'..=b'z', tail @ ..] => {
-            let n = run(tail);
-            match word(&rest[..n + 1], at) {
-                Some(token) => Ok((token, n + 1)),
+            let size = run(tail) + 1;
+            match word(&rest[..size], at) {
+                Some(token) => Ok((token, size)),
                 None => Err(TextFault::WrongByte(at)),
             }
         }
         [first @ b'A'..=b'Z', tail @ ..] => {
-            let spelling = name(*first, tail);
-            if spelling.decoded > NAME_BYTES {
-                return Err(TextFault::NameTooLong(at));
-            }
-            let named = Named {
-                place: at,
-                name: Name::new(spelling.bytes),
-            };
-            Ok((Token::Name(named), spelling.written))
+            let (name, others) = name(*first, tail).ok_or(TextFault::NameTooLong(at))?;
+            Ok((Token::Name(Named { place: at, name }), others + 1))
         }
         _ => Err(TextFault::WrongByte(at)),
     }

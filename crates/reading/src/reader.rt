@@ -1,5 +1,5 @@
 ghost use Rattle.std.specs.Prelude.{◌≡◌, ℕ, IfOk};
-ghost use Rattle.grammar.specs.Words.{weight, words};
+ghost use Rattle.grammar.specs.Words.{is_word, words};
 ghost use Rattle.reading.specs.Answers.{Answer, Answers};
 ghost use Rattle.reading.specs.Reading.{reading, shown};
 ghost use Rattle.reading.specs.Lengths.{fitting};
@@ -27,25 +27,19 @@ fn measure(line: &[u8]) -> Result<(), TextFault>
     Ok(())
 }
 
-/// Whether a token is a word, as 0 or 1.
-fn weigh(token: Token) -> usize
-    ensures { result ≡ weight token }
+/// Whether a token is a word: parentheses and names are none.
+fn is_word(token: Token) -> bool
+    ensures { result ≡ is_word token }
 {
-    match token {
-        Token::Open | Token::Close | Token::Name(_) => 0,
-        _ => 1,
-    }
+    !matches!(token, Token::Open | Token::Close | Token::Name(_))
 }
 
 /// How many of the tokens are words.
+#[tactic(auto, using(crate::proofs::Counted::words_are))]
 fn count_words(tokens: &[Token]) -> usize
     ensures { result ≡ words tokens.now }
 {
-    let mut count = 0;
-    for token in tokens {
-        count += weigh(*token);
-    }
-    count
+    tokens.iter().filter(|token| is_word(**token)).count()
 }
 
 /// What a line of a catalogue says, or why it is refused.

@@ -1,9 +1,7 @@
-ghost use Rattle.std.specs.Prelude.{◌≡◌, ℕ, ◌^◌, ◌<◌, ◌≤◌, length};
-ghost use Rattle.grammar.specs.Automaton.{step, depth};
-ghost use Rattle.grammar.specs.Words.{words};
+ghost use Rattle.std.specs.Prelude.{◌≡◌, ℕ, ◌<◌, ◌≤◌, length, IfOk};
 ghost use Rattle.reading.specs.Bytes.{tight};
 ghost use Rattle.reading.specs.Scan.{scanned};
-ghost use Rattle.reading.specs.Lexing.{edge_first, checked_at, given_of, held_tokens};
+ghost use Rattle.reading.specs.Lexing.{edge_first, checked_at, held_tokens};
 
 use crate::fault::{RuleFault, TextFault};
 use crate::lexer;
@@ -20,24 +18,13 @@ fn edge_next(rest: &[u8]) -> bool
 
 /// The token that comes first; right behind a word or a name only a space or a parenthesis may come.
 fn checked(rest: &[u8], at: usize, joined: bool) -> Result<(Token, usize), TextFault>
-    requires short { length rest.now ≤ 512 }
-    ensures { result ≡ checked_at joined at rest.now }
+    ensures value { result ≡ checked_at joined at rest.now }
+    ensures size { IfOk result (λ p. (0 < p.1) × (p.1 ≤ length rest.now)) }
 {
     if joined && !edge_next(rest) {
         return Err(TextFault::WrongByte(at));
     }
     lexer::token(rest, at)
-}
-
-/// The state behind one more token, where the grammar takes it.
-fn given(state: State, token: Token, at: usize) -> Result<State, RuleFault>
-    requires shallow { depth state < 2 ^ 32 }
-    ensures { result ≡ given_of at (step state token) }
-{
-    match state.after(token) {
-        State::Lost => Err(RuleFault::OutOfGrammar(at)),
-        next => Ok(next),
-    }
 }
 
 /// Whether the token is a word or a name.
@@ -50,6 +37,7 @@ fn is_tight(token: Token) -> bool
 /// The tokens of a line that is a rule, or its leftmost fault.
 ///
 /// A token is given to the grammar before the byte after it is looked at, since it stands further left.
+/// A place is counted along: tokens have more than one byte, and carry the place where they stand.
 pub(crate) fn scan(line: &[u8]) -> Result<Bounded<Token, 512>, RuleFault>
     requires short { length line.now ≤ 512 }
     ensures { held_tokens result ≡ scanned line.now }
@@ -64,7 +52,7 @@ pub(crate) fn scan(line: &[u8]) -> Result<Bounded<Token, 512>, RuleFault>
             at += 1;
         } else {
             let (token, size) = checked(&line[at..], at, joined)?;
-            state = given(state, token, at)?;
+            state = state.after(token).ok_or(RuleFault::OutOfGrammar(at))?;
             tokens.push(token);
             joined = is_tight(token);
             at += size;

@@ -1,24 +1,12 @@
 -- Lists with one item changed.
-use Rattle.std.proofs.Common.{◌≡◌, ℕ, zero, suc, ◌≢◌, List, [], ◌∷◌, map, length, get_or, take, set, Some, sym, refl, ap, ◌∙◌, arith}
+use Rattle.std.proofs.Common.{◌≡◌, ℕ, zero, suc, ◌≢◌, List, [], ◌∷◌, map, get_or, set, Some, None, sym, refl, ap, ◌∙◌, arith}
 use Rattle.std.specs.List.{slice_get}
 use Rattle.rules.specs.Items.{item, altered, altered_item}
 
-module _ {A : Type 0} (f : A → A) where
-  pub set_altered : (xs : List A) (i : ℕ) (d : A) → set xs i (f (get_or xs i d)) ≡ altered f i xs
-  set_altered [] i d = refl
-  set_altered (x ∷ xs) zero d = refl
-  set_altered (x ∷ xs) (suc i) d = ap (λ ys. x ∷ ys) (set_altered xs i d)
-
-  pub length_altered : (i : ℕ) (xs : List A) → length (altered f i xs) ≡ length xs
-  length_altered i [] = refl
-  length_altered zero (x ∷ xs) = refl
-  length_altered (suc i) (x ∷ xs) = ap suc (length_altered i xs)
-
-  pub take_altered : (n i : ℕ) (xs : List A) → take n (altered f i xs) ≡ altered f i (take n xs)
-  take_altered zero i xs = refl
-  take_altered (suc n) i [] = refl
-  take_altered (suc n) zero (x ∷ xs) = refl
-  take_altered (suc n) (suc i) (x ∷ xs) = ap (λ ys. x ∷ ys) (take_altered n i xs)
+pub set_altered : {A : Type 0} (f : A → A) (xs : List A) (i : ℕ) (d : A) → set xs i (f (get_or xs i d)) ≡ altered f i xs
+set_altered f [] i d = refl
+set_altered f (x ∷ xs) zero d = refl
+set_altered f (x ∷ xs) (suc i) d = ap (λ ys. x ∷ ys) (set_altered f xs i d)
 
 -- a change that shows in what is told of an item
 pub map_altered : {A B : Type 0} (g : A → B) (f : A → A) (h : B → B) → ((x : A) → g (f x) ≡ h (g x))
@@ -26,6 +14,16 @@ pub map_altered : {A B : Type 0} (g : A → B) (f : A → A) (h : B → B) → (
 map_altered g f h e i [] = refl
 map_altered g f h e zero (x ∷ xs) = ap (λ y. y ∷ map g xs) (e x)
 map_altered g f h e (suc i) (x ∷ xs) = ap (λ ys. g x ∷ ys) (map_altered g f h e i xs)
+
+-- a change of an item that is not there
+nth_absent : {A : Type 0} (f : A → A) (i : ℕ) (xs : List A) → slice_get xs i ≡ None → altered f i xs ≡ xs
+nth_absent f i [] e = refl
+nth_absent f zero (x ∷ xs) e = absurd (let z : ◌≡◌ {A = ℕ} 0 1 = cc in omega arith)
+nth_absent f (suc i) (x ∷ xs) e = ap (λ ys. x ∷ ys) (nth_absent f i xs e)
+
+pub altered_absent : {A : Type 0} (f : A → A) (n : ℕ) (xs : List A) → item n xs ≡ None → altered_item f n xs ≡ xs
+altered_absent f zero xs e = refl
+altered_absent f (suc i) xs e = nth_absent f i xs e
 
 -- the item itself, the others, and a change that is taken back
 module _ {A : Type 0} (f : A → A) where

@@ -1,22 +1,23 @@
 -- Numbers of lots in formulas.
-use Rattle.std.proofs.Common.{◌≡◌, ℕ, zero, suc, ◌<◌, ◌≤◌, Bool, true, ◌&&◌, ltb, leb, List, [], ◌∷◌, ◌++◌, length, get_or, Some, sym, refl, ap, ◌∙◌, ap₂, arith}
+use Rattle.std.proofs.Common.{◌≡◌, ℕ, zero, suc, ◌<◌, ◌≤◌, Bool, true, ◌&&◌, ltb, leb, List, [], ◌∷◌, ◌++◌, length, get_or, Some, refl, ap, ◌∙◌, ap₂, arith}
 use Rattle.std.proofs.ByRecursion.{All-append}
 use Rattle.std.specs.List.{AllByRecursion, slice_get}
 use Rattle.std.proofs.lemmas.Bool.{and_parts, and_from, leb-true, le-leb, ltb-true}
+use Rattle.std.proofs.lemmas.List.Folds.{list_all-append}
+use Rattle.std.proofs.lemmas.List.Sums.{AllPass-from_list_all, list_all-from_AllPass}
 use Rattle.std.specs.Option.{option_map}
 use Rattle.formula.specs.declared.node.Pair.{Pair}
-use Rattle.formula.specs.Tree.{Tree, leaf, not, and, or, then, map_tree, map_pair, atoms}
-use Rattle.formula.specs.Within.{within}
+use Rattle.formula.specs.Tree.{Tree, leaf, not, and, or, then, map_tree, map_pair, atoms, every}
+use Rattle.formula.specs.Within.{within, pair_below}
 use Rattle.grammar.specs.declared.name.Name.{Name}
 use Rattle.grammar.specs.declared.name.Named.{Named}
 use Rattle.grammar.specs.Names.{nobody}
 use Rattle.rules.specs.Asking.{tree_at}
 use Rattle.rules.specs.Entries.{Entry, all_among}
-use Rattle.rules.specs.Leaves.{every, pair_below, pair_among, among}
+use Rattle.rules.specs.Leaves.{pair_among, among}
 use Rattle.rules.specs.LotLaws.{LotsOf, OverLots}
 use Rattle.rules.specs.OverLots.{lot_of_named, tree_over_lots}
-use Rattle.rules.proofs.KnownLots.{Known, lot_least}
-use Rattle.rules.proofs.LeafTests.{within_every}
+use Rattle.rules.proofs.LotNumbers.{Known}
 
 module _ {A : Type 0} (q r : A → Bool) (weaker : (a : A) → q a ≡ true → r a ≡ true) where
   both_weaker : (a b c d : Bool) → (a ≡ true → c ≡ true) → (b ≡ true → d ≡ true) → (a && b) ≡ true → (c && d) ≡ true
@@ -53,15 +54,12 @@ among_wider n m t h =
     every_weaker (pair_among n) (pair_among m) (λ p e. let b = pair_parts n p e in pair_from m p b.0 (omega (arith, b.1)) b.2 (omega (arith, b.3))) t
 
 pub all_wider : (n m : ℕ) (es : List Entry) → n ≤ m → all_among n es ≡ true → all_among m es ≡ true
-all_wider n m [] h e = refl
-all_wider n m (x ∷ es) h e =
-    let b = and_parts (among n x.tree) (all_among n es) e in
-    and_from _ _ (among_wider n m x.tree h b.0) (all_wider n m es h b.1)
+all_wider n m es h e =
+    list_all-from_AllPass (λ (x : Entry). among m x.tree) es (λ i d l. among_wider n m (get_or es i d).tree h (AllPass-from_list_all (λ (x : Entry). among n x.tree) es e i d l))
 
 -- one more rule
 pub all_push : (n : ℕ) (es : List Entry) (x : Entry) → all_among n es ≡ true → among n x.tree ≡ true → all_among n (es ++ x ∷ []) ≡ true
-all_push n [] x e h = and_from _ _ h refl
-all_push n (y ∷ es) x e h = let b = and_parts (among n y.tree) (all_among n es) e in and_from _ _ b.0 (all_push n es x b.1 h)
+all_push n es x e h = list_all-append (λ (y : Entry). among n y.tree) es (x ∷ []) ∙ and_from _ _ e (and_from _ _ h refl)
 
 -- the formula of each rule
 pub item_among : (n k : ℕ) (es : List Entry) (t : Tree (Pair ℕ)) → all_among n es ≡ true → tree_at k es ≡ Some t → among n t ≡ true
@@ -82,9 +80,9 @@ over_among ls xs t known h =
     (λ p e.
     let b = and_parts (ltb p.first (length xs)) (ltb p.second (length xs)) e in
     pair_from (length ls) (map_pair (lot_of_named ls xs) p)
-    (lot_least (get_or xs p.first nobody).name ls) (known p.first (ltb-true p.first (length xs) b.0))
-    (lot_least (get_or xs p.second nobody).name ls) (known p.second (ltb-true p.second (length xs) b.1)))
-    t (sym (within_every (length xs) t) ∙ h)
+    (omega arith) (known p.first (ltb-true p.first (length xs) b.0))
+    (omega arith) (known p.second (ltb-true p.second (length xs) b.1)))
+    t h
 
 -- in words
 every_all : {A : Type 0} (q : A → Bool) (P : A → Type 0) → ((a : A) → q a ≡ true → P a) → (t : Tree A) → every q t ≡ true → AllByRecursion P (atoms t)

@@ -1,63 +1,15 @@
 -- Names that are lots stay lots, with their numbers, while names are added.
-use Rattle.std.proofs.Common.{◌≡◌, ℕ, zero, suc, ◌<◌, ◌≤◌, Bool, true, false, cond, ltb, ◌⊎◌, List, [], ◌∷◌, ◌++◌, length, get_or, Some, Ok, Err, Result, sym, refl, ap, ◌∙◌, subst, inl, inr, ⊎_elim, append_assoc, append-nil, arith, length-append}
-use Rattle.std.proofs.lemmas.Bool.{cond-true, leb-true, leb-false, ltb-true}
+use Rattle.std.proofs.Common.{◌≡◌, ℕ, zero, suc, ◌<◌, ◌≤◌, Bool, true, false, cond, ltb, ◌⊎◌, List, [], ◌∷◌, ◌++◌, length, get_or, Ok, Err, Result, sym, refl, ap, ◌∙◌, subst, inl, inr, ⊎_elim, append_assoc, append-nil, arith, length-append}
+use Rattle.std.proofs.lemmas.Bool.{leb-true, leb-false, ltb-true}
 use Rattle.grammar.specs.declared.name.Name.{Name}
 use Rattle.grammar.specs.declared.name.Named.{Named}
 use Rattle.grammar.specs.Names.{nobody}
-use Rattle.grammar.proofs.Same.{same_self, same_is}
 use Rattle.rules.specs.declared.fault.TakeFault.{TakeFault}
 use Rattle.rules.specs.declared.fault.TakeFault.TheVariants.{LotsFull}
 use Rattle.rules.specs.Adding.{lot_added, lots_added}
-use Rattle.rules.specs.Items.{item}
-use Rattle.rules.specs.Numbers.{is_name, lot_of, is_lot}
+use Rattle.rules.specs.Numbers.{lot_of, is_lot}
 use Rattle.rules.specs.Outcomes.{and_then}
-
--- a lot has the name
-abbrev pub Known : Name → List Name → Type 0
-Known n ls = lot_of n ls ≤ length ls
-
-pub lot_least : (n : Name) (ls : List Name) → 1 ≤ lot_of n ls
-lot_least n [] = omega arith
-lot_least n (m ∷ ms) = go (is_name m n)
-  where
-    go : (b : Bool) → 1 ≤ cond b 1 (suc (lot_of n ms))
-    go true = omega arith
-    go false = omega arith
-
-pub lot_more : (n : Name) (ls more : List Name) → Known n ls → lot_of n (ls ++ more) ≡ lot_of n ls
-lot_more n [] more h = absurd (let z : ⊥ = omega arith in z)
-lot_more n (m ∷ ms) more h = go (is_name m n) h (lot_more n ms more)
-  where
-    go : (b : Bool) → cond b 1 (suc (lot_of n ms)) ≤ suc (length ms) → (Known n ms → lot_of n (ms ++ more) ≡ lot_of n ms)
-        → cond b 1 (suc (lot_of n (ms ++ more))) ≡ cond b 1 (suc (lot_of n ms))
-    go true l f = refl
-    go false l f = ap suc (f (omega arith))
-
-pub known_more : (n : Name) (ls more : List Name) → Known n ls → Known n (ls ++ more)
-known_more n ls more h = omega (arith, lot_more n ls more h, length-append ls more)
-
-pub lot_last : (n : Name) (ls : List Name) → length ls < lot_of n ls → lot_of n (ls ++ n ∷ []) ≡ suc (length ls)
-lot_last n [] h = cond-true _ _ _ (same_self n.bytes)
-lot_last n (m ∷ ms) h = go (is_name m n) h (lot_last n ms)
-  where
-    go : (b : Bool) → suc (length ms) < cond b 1 (suc (lot_of n ms)) → (length ms < lot_of n ms → lot_of n (ms ++ n ∷ []) ≡ suc (length ms))
-        → cond b 1 (suc (lot_of n (ms ++ n ∷ []))) ≡ suc (suc (length ms))
-    go true l f = absurd (let z : ⊥ = omega arith in z)
-    go false l f = ap suc (f (omega arith))
-
--- the lot that a name is has the name
-pub lot_item : (n : Name) (ls : List Name) → Known n ls → item (lot_of n ls) ls ≡ Some n
-lot_item n [] h = absurd (let z : ⊥ = omega arith in z)
-lot_item n (m ∷ ms) h = go (is_name m n) refl h (lot_item n ms)
-  where
-    behind : (k : ℕ) → 1 ≤ k → item (suc k) (m ∷ ms) ≡ item k ms
-    behind zero l = absurd (omega arith)
-    behind (suc k) l = refl
-
-    go : (b : Bool) → is_name m n ≡ b → cond b 1 (suc (lot_of n ms)) ≤ suc (length ms) → (Known n ms → item (lot_of n ms) ms ≡ Some n)
-        → item (cond b 1 (suc (lot_of n ms))) (m ∷ ms) ≡ Some n
-    go true e l f = ap (λ (bs : List ℕ). Some (record { bytes = bs })) (same_is m.bytes n.bytes e)
-    go false e l f = behind (lot_of n ms) (lot_least n ms) ∙ f (omega arith)
+use Rattle.rules.proofs.LotNumbers.{Known, known_more, lot_last}
 
 -- how one name is added: it is a lot, or it becomes one
 added_how : (ls ms : List Name) (x : Named) → lot_added ls x ≡ Ok ms

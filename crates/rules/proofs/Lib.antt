@@ -8,9 +8,7 @@ pub mod ApartLots
 pub mod LeafTests
 pub mod AmongLots
 pub mod Renumbered
-pub mod PairTruths
 pub mod KeptRules
-pub mod MarkedRows
+pub mod MarkedRules
 pub mod PutBack
 pub mod TakenLines
-pub mod StruckRules

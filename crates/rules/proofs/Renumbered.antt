@@ -4,10 +4,9 @@ use Rattle.std.proofs.lemmas.List.{map-append, take_all}
 use Rattle.formula.specs.declared.node.Node.{Node}
 use Rattle.formula.specs.declared.node.Node.TheVariants.{Not, And, Or, Then}
 use Rattle.formula.specs.declared.node.Pair.{Pair}
-use Rattle.formula.specs.Table.{top, post, tree_of, pair_place}
+use Rattle.formula.specs.Table.{top, post, tree_of, pair_place, map_node}
 use Rattle.formula.specs.Tree.{Tree, leaf, not, and, or, then, map_tree, map_pair, spans}
 use Rattle.formula.proofs.Growth.{tree_of_post}
-use Rattle.rules.specs.Leaves.{map_node}
 
 module _ {A B : Type 0} (f : A → B) where
   top_map : (k : ℕ) (t : Tree A) → top k (map_tree f t) ≡ top k t

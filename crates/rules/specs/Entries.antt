@@ -1,5 +1,6 @@
 -- The tables of lots and rules as plain data. Rests on Tree and Leaves.
-use Rattle.std.specs.Prelude.{ℕ, Bool, true, cond, ◌&&◌, List, [], ◌∷◌}
+use Rattle.std.specs.Prelude.{ℕ, Bool, cond, List, [], ◌∷◌}
+use Rattle.std.specs.List.{list_all}
 use Rattle.formula.specs.declared.node.Pair.{Pair}
 use Rattle.formula.specs.Tree.{Tree}
 use Rattle.grammar.specs.declared.name.Name.{Name}
@@ -26,5 +27,4 @@ rules_in_force (e ∷ es) = cond e.force (e.tree ∷ rules_in_force es) (rules_i
 
 -- all numbers in the formulas of rules are numbers of n lots
 abbrev pub all_among : ℕ → List Entry → Bool
-all_among n [] = true
-all_among n (e ∷ es) = among n e.tree && all_among n es
+all_among n es = list_all (λ (e : Entry). among n e.tree) es

@@ -1,11 +1,6 @@
 -- Items of a list by their numbers. Rests on nothing.
-use Rattle.std.specs.Prelude.{ℕ, zero, suc, cond, List, [], ◌∷◌, Some, None, Option, nat_lt}
+use Rattle.std.specs.Prelude.{ℕ, zero, suc, List, [], ◌∷◌, None, Option}
 use Rattle.std.specs.List.{slice_get}
-
--- the index, from 0, of the item with a number, from 1, in a list of n items
-abbrev pub place_of : ℕ → ℕ → Option ℕ
-place_of zero n = None
-place_of (suc i) n = cond (nat_lt i n) (Some i) None
 
 -- the item with a number, from 1
 abbrev pub item : {A : Type 0} → ℕ → List A → Option A

@@ -1,5 +1,6 @@
 -- Lots as a list of stored names, and the number of a name among them. Rests on Names of crate grammar.
 use Rattle.std.specs.Prelude.{ℕ, suc, Bool, true, cond, not as flip, ◌&&◌, List, [], ◌∷◌, length, Some, None, Option, nat_le}
+use Rattle.std.specs.List.{position_or_len}
 use Rattle.grammar.specs.declared.name.Name.{Name}
 use Rattle.grammar.specs.Names.{same}
 
@@ -13,8 +14,7 @@ no_name = record { bytes = [] }
 
 -- the number of a name, from 1: the first lot that has it, or one past the last
 abbrev pub lot_of : Name → List Name → ℕ
-lot_of n [] = 1
-lot_of n (m ∷ ms) = cond (is_name m n) 1 (suc (lot_of n ms))
+lot_of n ls = suc (position_or_len (λ m. is_name m n) ls)
 
 -- whether a lot has the name
 abbrev pub is_lot : Name → List Name → Bool

@@ -13,11 +13,12 @@ pub record Marked (n : ℕ) (b : Bool) (before after : Entries) : Type 0 where
   pub this : (e : Entry) → item n before.rules ≡ Some e → item n after.rules ≡ Some (record { tree = e.tree; force = b })
   pub others : (k : ℕ) → k ≢ n → item k after.rules ≡ item k before.rules
 
--- The same of a program's tables, field by field: the first rows, as many as rules were given, with the mark on the one with number n.
+-- The same of a program's tables, field by field: the rules in place, those that were given and what stands behind them, with the mark on the rule
+-- with number n.
 pub record MarkedFields (n : ℕ) (b : Bool) (before after : Tables) : Type 0 where
-  pub rows : after.rows.rows ≡ row_marked before.given n b before.rows.rows
+  pub rows : after.rules.items ≡ row_marked before.rules.count n b before.rules.items
   pub lots : after.lots ≡ before.lots
-  pub given : after.given ≡ before.given
+  pub given : after.rules.count ≡ before.rules.count
 
 -- A mark that is set, and then set to what it was, leaves the tables as they were, in every field.
 abbrev pub PutBack : Type 0

@@ -4,6 +4,6 @@ use Rattle.rules.specs.Entered.{entries_in}
 use Rattle.rules.specs.Entries.{Entries}
 use Rattle.rules.specs.LotNames.{lots_in}
 
--- the lots, and as many rows as rules were given
+-- the lots and the rules
 abbrev pub entered : Tables → Entries
-entered t = record { lots = lots_in t.lots; rules = entries_in t.given t.rows }
+entered t = record { lots = lots_in t.lots; rules = entries_in t.rules }

@@ -4,10 +4,8 @@
 
 pub mod examples;
 pub mod fault;
-mod index;
 mod keeping;
 mod lots;
 mod numbering;
-mod rows;
 pub mod rule;
 pub mod tables;

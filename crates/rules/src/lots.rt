@@ -1,7 +1,9 @@
-ghost use Rattle.std.specs.Prelude.{◌≡◌, ℕ, ◌≤◌, true, take};
+ghost use Rattle.std.specs.Prelude.{◌≡◌, true};
+ghost use Rattle.formula.specs.Held.{held};
 ghost use Rattle.rules.specs.Numbers.{apart};
 
 use crate::tables::MAX_LOTS;
+use formula::bounded::Bounded;
 use grammar::name::Name;
 
 pub mod naming;
@@ -10,8 +12,6 @@ pub mod naming;
 /// place here, from 1.
 #[derive(Clone, Copy)]
 pub struct Lots {
-    names: [Name; MAX_LOTS],
-    count: usize,
-    ghost few: { count ≤ 24 },
-    ghost once: { apart (take count names) ≡ true },
+    names: Bounded<Name, MAX_LOTS>,
+    ghost once: { apart (held names) ≡ true },
 }

@@ -1,10 +1,11 @@
-ghost use Rattle.std.specs.Prelude.{◌≡◌, ℕ, ◌≤◌, true, length};
+ghost use Rattle.std.specs.Prelude.{◌≡◌, true, length};
 ghost use Rattle.rules.specs.Entered.{entries_in};
 ghost use Rattle.rules.specs.Entries.{all_among};
 ghost use Rattle.rules.specs.LotNames.{lots_in};
 
 use crate::lots::Lots;
-use crate::rows::Rows;
+use crate::rule::Rule;
+use formula::bounded::Bounded;
 
 pub mod asking;
 pub mod striking;
@@ -20,9 +21,6 @@ pub const MAX_RULES: usize = 32;
 #[derive(Drop)]
 pub struct Tables {
     lots: Lots,
-    rows: Rows,
-    given: usize,
-    ghost few: { given ≤ 32 },
-    ghost wide: { length rows.rows ≡ 32 },
-    ghost over: { all_among (length (lots_in lots)) (entries_in given rows) ≡ true },
+    rules: Bounded<Rule, MAX_RULES>,
+    ghost over: { all_among (length (lots_in lots)) (entries_in rules) ≡ true },
 }

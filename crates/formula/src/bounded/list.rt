@@ -1,4 +1,5 @@
-ghost use Rattle.std.specs.Prelude.{◌≡◌, ℕ, ◌<◌, List, ◌∷◌, ◌++◌, length};
+ghost use Rattle.std.specs.Prelude.{◌≡◌, ℕ, ◌<◌, List, ◌∷◌, ◌++◌, length, slice_index_or, slice_set};
+ghost use Rattle.std.specs.Fn.{FnOnceReturnsAtMut};
 ghost use Rattle.formula.specs.Held.{held};
 
 use crate::bounded::Bounded;
@@ -29,13 +30,26 @@ impl<T: Copy, const N: usize> Bounded<T, N> {
         &all[0..self.count]
     }
 
-    /// One more item at the end.
-    pub fn push(&mut self, item: T)
+    /// One more item at the end, and its index.
+    pub fn push(&mut self, item: T) -> usize
         requires room { length (held self.old) < N }
-        ensures { held self.new ≡ held self.old ++ (item ∷ List.[]) }
+        ensures at { result ≡ length (held self.old) }
+        ensures more { held self.new ≡ held self.old ++ (item ∷ List.[]) }
     {
         let at = self.count;
         self.items[at] = item;
         self.count = at + 1;
+        at
+    }
+
+    /// Lends one item to be changed.
+    pub fn change<F: FnOnce(&mut T)>(&mut self, at: usize, change: F)
+        requires inside { at < length (held self.old) }
+        requires change { F.IsAlwaysCallable change }
+        ensures { (item : T) × FnOnceReturnsAtMut F.FnOnce change (slice_index_or (held self.old) at item) tt item × (held self.new ≡ slice_set (held self.old) at item) × (self.new.items ≡ slice_set self.old.items at item) × (self.new.count ≡ self.old.count) }
+    {
+        let mut item = self.items[at];
+        change(&mut item);
+        self.items[at] = item;
     }
 }

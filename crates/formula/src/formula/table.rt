@@ -9,6 +9,7 @@ ghost use Rattle.formula.specs.Tree.{spans};
 use crate::bounded::Bounded;
 use crate::formula::Formula;
 use crate::node::{Node, Pair};
+use crate::table::Table;
 
 impl Formula {
     /// The formula whose table this is.
@@ -17,11 +18,7 @@ impl Formula {
         requires in_order { spans pair_place 0 512 (tree_of (held table)) ≡ true }
         ensures { nodes_of result ≡ held table }
     {
-        let Bounded { items, count } = table;
-        Formula {
-            nodes: items,
-            count,
-        }
+        Formula { nodes: table }
     }
 
     /// How many nodes there are: at least one.
@@ -33,6 +30,15 @@ impl Formula {
         self.nodes().len()
     }
 
+    /// Its table, lent.
+    pub fn table(&self) -> Table<'_, Pair<usize>>
+        ensures { result.nodes.now ≡ nodes_of self.now }
+    {
+        Table {
+            nodes: self.nodes.items(),
+        }
+    }
+
     /// The nodes, each after its parts, and all but the last a part of exactly one other.
     pub fn nodes(&self) -> &[Node<Pair<usize>>]
         ensures items { result.now ≡ nodes_of self.now }
@@ -40,6 +46,6 @@ impl Formula {
         ensures first { parts_first 0 result.now ≡ true }
         ensures places { spans pair_place 0 512 (formula_tree self.now) ≡ true }
     {
-        &self.nodes[0..self.count]
+        self.table().nodes
     }
 }

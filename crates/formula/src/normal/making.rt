@@ -1,5 +1,4 @@
 ghost use Rattle.std.specs.Prelude.{◌≡◌, ℕ, ◌+◌, ◌<◌, ◌≤◌, true, List, ◌∷◌, ◌++◌, length};
-ghost use Rattle.formula.specs.Evaluation.{parts_first};
 ghost use Rattle.formula.specs.Formulas.{formula_tree};
 ghost use Rattle.formula.specs.Held.{held};
 ghost use Rattle.formula.specs.LiteralTable.{joined_node};
@@ -14,6 +13,7 @@ use crate::formula::Formula;
 use crate::literal::Literal;
 use crate::node::{Node, Pair};
 use crate::normal::NormalForm;
+use crate::table::Table;
 
 // The node over two parts: `and` for a positive sign, `or` for a negative one.
 fn join(positive: bool, place: usize, left: usize, right: usize) -> Node<Literal>
@@ -26,48 +26,36 @@ fn join(positive: bool, place: usize, left: usize, right: usize) -> Node<Literal
     }
 }
 
-// Appends one node, and says where it stands.
-fn put(out: &mut Bounded<Node<Literal>, 32>, node: Node<Literal>) -> usize
-    requires room { length (held out.old) < 32 }
-    ensures at { result ≡ length (held out.old) }
-    ensures more { held out.new ≡ held out.old ++ (node ∷ List.[]) }
-{
-    let at = out.len();
-    out.push(node);
-    at
-}
-
 // Appends the normal form of the tree of a node, or of its opposite where the sign is negative, and
 // says where its top node stands.
 fn append(
-    nodes: &[Node<Pair<usize>>],
+    table: &Table<Pair<usize>>,
     at: usize,
     positive: bool,
     out: &mut Bounded<Node<Literal>, 32>,
 ) -> usize
-    requires first { parts_first 0 nodes.now ≡ true }
-    requires within { at < length nodes.now }
-    requires room { length (held out.old) + size (nnf positive (node_tree nodes.now at)) ≤ 32 }
-    ensures top { result ≡ top (length (held out.old)) (nnf positive (node_tree nodes.now at)) }
-    ensures more { held out.new ≡ held out.old ++ post (length (held out.old)) (nnf positive (node_tree nodes.now at)) }
+    requires within { at < length table.now.nodes.now }
+    requires room { length (held out.old) + size (nnf positive (node_tree table.now.nodes.now at)) ≤ 32 }
+    ensures top { result ≡ top (length (held out.old)) (nnf positive (node_tree table.now.nodes.now at)) }
+    ensures more { held out.new ≡ held out.old ++ post (length (held out.old)) (nnf positive (node_tree table.now.nodes.now at)) }
 {
-    match nodes[at] {
-        Node::Leaf(pair) => put(out, Node::Leaf(Literal { positive, pair })),
-        Node::Not { part, .. } => append(nodes, part, !positive, out),
+    match table.nodes[at] {
+        Node::Leaf(pair) => out.push(Node::Leaf(Literal { positive, pair })),
+        Node::Not { part, .. } => append(table, part, !positive, out),
         Node::And { place, left, right } => {
-            let x = append(nodes, left, positive, out);
-            let y = append(nodes, right, positive, out);
-            put(out, join(positive, place, x, y))
+            let x = append(table, left, positive, out);
+            let y = append(table, right, positive, out);
+            out.push(join(positive, place, x, y))
         }
         Node::Or { place, left, right } => {
-            let x = append(nodes, left, positive, out);
-            let y = append(nodes, right, positive, out);
-            put(out, join(!positive, place, x, y))
+            let x = append(table, left, positive, out);
+            let y = append(table, right, positive, out);
+            out.push(join(!positive, place, x, y))
         }
         Node::Then { place, left, right } => {
-            let x = append(nodes, left, !positive, out);
-            let y = append(nodes, right, positive, out);
-            put(out, join(!positive, place, x, y))
+            let x = append(table, left, !positive, out);
+            let y = append(table, right, positive, out);
+            out.push(join(!positive, place, x, y))
         }
     }
 }
@@ -87,11 +75,7 @@ impl Formula {
             positive: false,
             pair: nowhere,
         }));
-        append(self.nodes(), self.len() - 1, true, &mut table);
-        let Bounded { items, count } = table;
-        NormalForm {
-            nodes: items,
-            count,
-        }
+        append(&self.table(), self.len() - 1, true, &mut table);
+        NormalForm { nodes: table }
     }
 }

@@ -9,8 +9,18 @@ ghost use Rattle.formula.specs.Words.{words};
 use crate::literal::Literal;
 use crate::node::Node;
 use crate::normal::NormalForm;
+use crate::table::Table;
 
 impl NormalForm {
+    /// Its table, lent.
+    pub fn table(&self) -> Table<'_, Literal>
+        ensures { result.nodes.now ≡ normal_nodes self.now }
+    {
+        Table {
+            nodes: self.nodes.items(),
+        }
+    }
+
     /// The nodes, each after its parts, and all but the last a part of exactly one other.
     pub fn nodes(&self) -> &[Node<Literal>]
         ensures items { result.now ≡ normal_nodes self.now }
@@ -20,6 +30,6 @@ impl NormalForm {
         ensures plain { all_plain result.now ≡ true }
         ensures form { InNormalForm (normal_tree self.now) }
     {
-        &self.nodes[0..self.count]
+        self.table().nodes
     }
 }

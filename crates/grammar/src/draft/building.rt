@@ -1,37 +1,32 @@
-ghost use Rattle.std.specs.Prelude.{◌≡◌, ℕ, ◌<◌, List, ◌∷◌, ◌++◌, length};
+ghost use Rattle.std.specs.Prelude.{◌≡◌, ℕ, ◌<◌, position, List, ◌∷◌, ◌++◌, length};
 ghost use Rattle.formula.specs.Held.{held};
 ghost use Rattle.formula.specs.declared.node.Node.TheVariants.{Leaf};
 ghost use Rattle.grammar.specs.Drafts.{nodes_in, names_in};
-ghost use Rattle.grammar.specs.Names.{find, enlist, pair_in};
+ghost use Rattle.grammar.specs.Names.{find, is_named, enlist, pair_in};
 
 use crate::draft::Draft;
 use crate::name::{Name, Named};
 use formula::bounded::Bounded;
 use formula::node::{Node, Pair};
 
-/// The number of a name in a list: the first place where it stands, or the list's length.
-fn position(names: &[Named], name: &Name) -> usize
-    ensures { result ≡ find name.now names.now }
+/// The number of a name in a list, if it stands there: the first place where it does.
+fn number_in(names: &[Named], name: Name) -> Option<usize>
+    ensures { result ≡ position (is_named name) names.now }
 {
-    for (i, known) in names.iter().enumerate() {
-        if known.name.is(name) {
-            return i;
-        }
-    }
-    names.len()
+    names.iter().position(|known| known.name == name)
 }
 
 /// The number of a name, which is added where it does not stand yet.
+#[tactic(auto, using(crate::proofs::Numbering::find_none))]
 fn number(names: &mut Bounded<Named, 64>, named: Named) -> usize
     requires room { length (held names.old) < 64 }
     ensures number { result ≡ find named.name (held names.old) }
     ensures names { held names.new ≡ enlist (held names.old) named }
 {
-    let at = position(names.items(), &named.name);
-    if at >= names.len() {
-        names.push(named);
+    match number_in(names.items(), named.name) {
+        Some(at) => at,
+        None => names.push(named),
     }
-    at
 }
 
 impl Draft {
@@ -57,9 +52,7 @@ impl Draft {
         ensures nodes { nodes_in self.new ≡ nodes_in self.old ++ (node ∷ List.[]) }
         ensures names { names_in self.new ≡ names_in self.old }
     {
-        let at = self.nodes.len();
-        self.nodes.push(node);
-        at
+        self.nodes.push(node)
     }
 
     /// A pair at the end, by the numbers of its names, and its index.
@@ -69,14 +62,12 @@ impl Draft {
         ensures names { names_in self.new ≡ enlist (enlist (names_in self.old) first) second }
         ensures nodes { nodes_in self.new ≡ nodes_in self.old ++ (Leaf (pair_in (names_in self.new) (record { place = place; first = first; second = second })) ∷ List.[]) }
     {
-        let at = self.nodes.len();
         let one = number(&mut self.names, first);
         let other = number(&mut self.names, second);
         self.nodes.push(Node::Leaf(Pair {
             place,
             first: one,
             second: other,
-        }));
-        at
+        }))
     }
 }

@@ -30,11 +30,7 @@ impl Standing {
     pub fn stands(&self, lot: usize) -> bool
         ensures { result ≡ has lot (standing_lots self.now) }
     {
-        let flags = self.flags();
-        if lot == 0 || lot > flags.len() {
-            return false;
-        }
-        flags[lot - 1]
+        (1..=self.lots).contains(&lot) && self.flags[lot - 1]
     }
 
     /// Takes a lot out; one that does not stand changes nothing.

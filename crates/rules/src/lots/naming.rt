@@ -1,12 +1,13 @@
-ghost use Rattle.std.specs.Prelude.{◌≡◌, ℕ, List};
+ghost use Rattle.std.specs.Prelude.{◌≡◌, List, position};
 ghost use Rattle.rules.specs.LotNames.{lots_in, lots_of};
-ghost use Rattle.rules.specs.Numbers.{lot_of};
+ghost use Rattle.rules.specs.Numbers.{is_name, lot_found};
 ghost use Rattle.rules.specs.Adding.{lot_added, lots_added};
 ghost use Rattle.rules.specs.Outcomes.{done, settled};
 
 use crate::fault::TakeFault;
 use crate::lots::Lots;
 use crate::tables::MAX_LOTS;
+use formula::bounded::Bounded;
 use grammar::name::{Name, Named};
 
 impl Lots {
@@ -14,30 +15,30 @@ impl Lots {
     pub fn new() -> Self
         ensures { lots_in result ≡ List.[] }
     {
-        Lots {
-            names: [Name::new([0; 12]); MAX_LOTS],
-            count: 0,
-        }
+        let names = Bounded::new(Name::new([0; 12]));
+        Lots { names }
     }
 
     /// The names, lot 1 first.
     pub fn names(&self) -> &[Name]
         ensures { result.now ≡ lots_in self.now }
     {
-        &self.names[0..self.count]
+        self.names.items()
     }
 
-    /// The number of the lot with this name, or one past the last where there is none.
-    pub fn number_of(&self, name: &Name) -> usize
-        ensures { result ≡ lot_of name.now (lots_in self.now) }
+    // The index of the lot with this name, if there is one.
+    fn index_of(&self, name: &Name) -> Option<usize>
+        ensures { result ≡ position (λ m. is_name m name.now) (lots_in self.now) }
     {
-        let names = self.names();
-        for (i, lot) in names.iter().enumerate() {
-            if lot.is(name) {
-                return i + 1;
-            }
-        }
-        names.len() + 1
+        self.names().iter().position(|lot| lot.is(name))
+    }
+
+    /// The number of the lot with this name, if there is one.
+    pub fn number_of(&self, name: &Name) -> Option<usize>
+        ensures { result ≡ lot_found name.now (lots_in self.now) }
+    {
+        let at = self.index_of(name)?;
+        Some(at + 1)
     }
 
     /// Makes the name a lot where it is none.
@@ -45,15 +46,13 @@ impl Lots {
         ensures answer { result ≡ done (lot_added (lots_in self.old) named) }
         ensures after { lots_in self.new ≡ settled (lots_in self.old) (lot_added (lots_in self.old) named) }
     {
-        let count = self.names().len();
-        if self.number_of(&named.name) <= count {
+        if self.number_of(&named.name).is_some() {
             return Ok(());
         }
-        if count >= MAX_LOTS {
+        if self.names.len() >= MAX_LOTS {
             return Err(TakeFault::LotsFull(named.place));
         }
-        self.names[count] = named.name;
-        self.count = count + 1;
+        self.names.push(named.name);
         Ok(())
     }
 

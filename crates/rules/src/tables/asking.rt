@@ -10,7 +10,6 @@ ghost use Rattle.rules.specs.LotLaws.{OverLots};
 ghost use Rattle.rules.specs.Numbers.{lot_found};
 ghost use Rattle.rules.specs.Views.{entered};
 
-use crate::index::index_of;
 use crate::keeping;
 use crate::rule::Rule;
 use crate::tables::Tables;
@@ -29,36 +28,32 @@ impl Tables {
     pub fn lot(&self, number: usize) -> Option<Name>
         ensures { result ≡ item number (entered self.now).lots }
     {
-        let names = self.lots.names();
-        let at = index_of(number, names.len())?;
-        Some(names[at])
+        let at = number.checked_sub(1)?;
+        self.lots.names().get(at).copied()
     }
 
     /// The number of the lot that has this name, however it was spelt in a line.
+    #[tactic(auto, using(crate::proofs::ApartLots::found_only))]
     pub fn lot_named(&self, name: &Name) -> Option<usize>
         ensures value { result ≡ lot_found name.now (entered self.now).lots }
         ensures only { (k : ℕ) → (result ≡ Some k) ↔ (item k (entered self.now).lots ≡ Some name.now) }
     {
-        let number = self.lots.number_of(name);
-        if number > self.lots() {
-            return None;
-        }
-        Some(number)
+        self.lots.number_of(name)
     }
 
     /// How many rules were given.
     pub fn rules(&self) -> usize
         ensures { result ≡ length (entered self.now).rules }
     {
-        self.given
+        self.rules.len()
     }
 
     /// A rule, by its number from 1.
     pub fn rule(&self, number: usize) -> Option<&Rule>
         ensures { MatchOption result (item number (entered self.now).rules ≡ None) (λ x. item number (entered self.now).rules ≡ Some (entry_of x.now)) }
     {
-        let at = index_of(number, self.given)?;
-        Some(self.rows.row(at))
+        let row = number.checked_sub(1)?;
+        self.rules.items().get(row)
     }
 
     /// Whether a rule is in force, by its number from 1.
@@ -70,6 +65,7 @@ impl Tables {
     }
 
     /// The formula of a rule, by its number from 1.
+    #[tactic(auto, using(crate::proofs::AmongLots::over_in_words))]
     pub fn formula(&self, number: usize) -> Option<&Formula>
         ensures tree { MatchOption result (tree_at number (entered self.now).rules ≡ None) (λ f. tree_at number (entered self.now).rules ≡ Some (formula_tree f.now)) }
         ensures over { (k : ℕ) (t : Tree (Pair ℕ)) → tree_at k (entered self.now).rules ≡ Some t → OverLots (length (entered self.now).lots) t }
@@ -80,6 +76,7 @@ impl Tables {
 
     /// Whether a numbering, given by the firing of each lot from lot 1 on, keeps a rule. None if the
     /// rule was never given, or if there are fewer firings than lots.
+    #[tactic(auto, using(crate::proofs::KeptRules::kept_same))]
     pub fn keeps(&self, number: usize, firings: &[usize]) -> Option<bool>
         ensures value { result ≡ keep_answer (entered self.now) number firings.now }
         ensures lots { IfSome result (λ b. (f : Numbering) (t : Tree (Pair ℕ)) → tree_at number (entered self.now).rules ≡ Some t → Agree (length (entered self.now).lots) f (by_lot firings.now) → b ≡ kept_in f t) }

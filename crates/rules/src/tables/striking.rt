@@ -5,7 +5,6 @@ ghost use Rattle.rules.specs.StrikingLaws.{Marked, MarkedFields, PutBack};
 ghost use Rattle.rules.specs.Views.{entered};
 
 use crate::fault::StrikeFault;
-use crate::index::index_of;
 use crate::tables::Tables;
 
 impl Tables {
@@ -17,8 +16,8 @@ impl Tables {
         ensures back { PutBack }
         ensures fields { MarkedFields number mark self.old self.new }
     {
-        if let Some(at) = index_of(number, self.given) {
-            self.rows.set_mark(at, mark);
+        if self.rule(number).is_some() {
+            self.rules.change(number - 1, |rule| rule.set_mark(mark));
         }
     }
 
@@ -30,13 +29,13 @@ impl Tables {
         ensures fields { OnOk result (MarkedFields number false self.old self.new) }
         ensures refused { (f : StrikeFault) → result ≡ Err f → self.new ≡ self.old }
     {
-        let Some(in_force) = self.in_force(number) else {
-            return Err(StrikeFault::NeverGiven(self.given));
-        };
-        if !in_force {
-            return Err(StrikeFault::StruckBefore(number));
+        match self.in_force(number) {
+            None => Err(StrikeFault::NeverGiven(self.rules())),
+            Some(false) => Err(StrikeFault::StruckBefore(number)),
+            Some(true) => {
+                self.set_mark(number, false);
+                Ok(())
+            }
         }
-        self.set_mark(number, false);
-        Ok(())
     }
 }

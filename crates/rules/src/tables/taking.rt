@@ -10,8 +10,7 @@ ghost use Rattle.rules.specs.Views.{entered};
 
 use crate::fault::TakeFault;
 use crate::lots::Lots;
-use crate::numbering::over_lots;
-use crate::rows::Rows;
+use crate::numbering::LineLots;
 use crate::rule::Rule;
 use crate::tables::{MAX_RULES, Tables};
 use formula::bounded::Bounded;
@@ -19,7 +18,7 @@ use formula::formula::Formula;
 use formula::node::{Node, Pair};
 use grammar::line::Line;
 
-// What stands in a row before a rule is written there.
+// What stands where no rule is.
 fn unwritten() -> Rule
     ensures { formula_tree result.formula ≡ blank }
 {
@@ -39,8 +38,7 @@ impl Tables {
     {
         Tables {
             lots: Lots::new(),
-            rows: Rows::new(unwritten()),
-            given: 0,
+            rules: Bounded::new(unwritten()),
         }
     }
 
@@ -52,16 +50,15 @@ impl Tables {
         ensures took { OnOk result (Took (entered self.old) (entered self.new) (said line.now)) }
         ensures refused { (f : TakeFault) → result ≡ Err f → self.new ≡ self.old }
     {
-        if self.given >= MAX_RULES {
+        if self.rules() >= MAX_RULES {
             return Err(TakeFault::RulesFull);
         }
         let names = line.names();
         let lots = self.lots.with(names)?;
-        let formula = over_lots(line.formula(), names, &lots);
-        let at = self.given;
-        self.rows.put(at, Rule::new(formula));
+        let line_lots = LineLots { names, lots: &lots };
+        let formula = line_lots.over_lots(line.formula());
+        let at = self.rules.push(Rule::new(formula));
         self.lots = lots;
-        self.given = at + 1;
         Ok(at + 1)
     }
 }

@@ -1,15 +1,13 @@
-use Rattle.formula.proofs.TreeTruths.{evaluated_all, evaluated_trees}
+use Rattle.std.proofs.Common.{length, drop, sym, subst, ◌∙◌}
+use Rattle.formula.specs.TruthLaws.{TruthsOfTrees}
+use Rattle.formula.proofs.TreeTruths.{ready_first, truths_of_trees}
 use Rattle.formula.proofs.evaluation.evaluate.Goals as goal
 
-pub returns-then-can : goal.returns-then-can
-returns-then-can g c =
+pub returns-clause-trees : goal.returns-clause-trees
+returns-clause-trees g c =
     let s = g.S.Scale in
-    record {
-      answer = c.is_ready-can.ensures;
-      after =
-          evaluated_all s.ops s.blank c.args.nodes.now c.args.leaves.now c.args.truths.now c.fill.new.truths
-          c.is_ready-can.result c.is_ready-can.ensures c.if-can.true c.fill.ensures;
-      trees = λ on.
-          evaluated_trees s.ops s.blank c.args.nodes.now c.args.leaves.now c.args.truths.now c.fill.new.truths
-          c.is_ready-can.result c.is_ready-can.ensures on c.fill.ensures;
-    }
+    let ns = c.args.nodes.now in
+    let ls = c.args.leaves.now in
+    let old = c.args.truths.now in
+    let first = ready_first ns (length ls) (length old) _ (sym c.check.ensures ∙ c.in_ok-check.was) in
+    subst (TruthsOfTrees s.ops s.blank ns ls) (sym c.fill.ensures) (truths_of_trees s.ops s.blank ns ls (drop (length ns) old) first)

@@ -5,4 +5,4 @@ use Rattle.formula.proofs.evaluation.fill.Given as goal
 abbrev pub invariant-loop-i : goal.invariant-loop-i
 invariant-loop-i g l =
     let s = g.S.Scale in
-    l.truths ≡ take l.i (node_truths s.ops s.blank l.nodes l.leaves) ++ drop l.i l.initial.truths
+    l.truths ≡ take l.i (node_truths s.ops s.blank l.table.nodes.now l.leaves) ++ drop l.i l.initial.truths

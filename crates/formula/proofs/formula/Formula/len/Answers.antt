@@ -14,5 +14,5 @@ returns c =
     let some = some_node (formula_tree f) in
     let size = post_length 0 (formula_tree f) in
     let same : length (post 0 (formula_tree f)) ≡ length (nodes_of f) = ap length f.whole in
-    let most : length (nodes_of f) ≤ 32 = omega (arith, f.few, length-take f.count f.nodes) in
+    let most : length (nodes_of f) ≤ 32 = omega (arith, f.nodes.few, length-take f.nodes.count f.nodes.items) in
     record { count = count; bounds = (omega arith, omega arith); words = few_words (formula_tree f) (omega arith) }

@@ -1,8 +1,7 @@
-use Rattle.std.proofs.Common.{◌≡◌, true, sym, ap, ◌∙◌, subst, rules}
-use Rattle.formula.specs.Evaluation.{parts_first}
-use Rattle.formula.specs.Formulas.{nodes_of, formula_tree}
+use Rattle.std.proofs.Common.{sym, ◌∙◌, subst, rules}
+use Rattle.formula.specs.Formulas.{formula_tree}
 use Rattle.formula.specs.TableLaws.{OneTree}
-use Rattle.formula.proofs.Parenthood.{one_tree, post_first}
+use Rattle.formula.proofs.Parenthood.{one_tree}
 use Rattle.formula.proofs.formula.Formula.nodes.Goals as goal
 
 pub returns : goal.returns
@@ -11,8 +10,6 @@ returns c =
     record {
       items = search rules;
       tree = subst OneTree (f.whole ∙ sym (search rules)) (one_tree (formula_tree f));
-      first =
-          (let first : parts_first 0 (nodes_of f) ≡ true = ap (parts_first 0) (sym f.whole) ∙ post_first (formula_tree f) in
-          search rules);
+      first = c.table.result.first;
       places = f.in_order;
     }

@@ -7,10 +7,9 @@ use Rattle.formula.proofs.formula.Formula.normal.Goals as goal
 pub append-requires : goal.append-requires
 append-requires c =
     let f = c.args.self.now in
-    let e = top_tree (nodes_of f) c.nodes.result.now c.len.result c.nodes.ensures.items c.len.ensures.count in
-    let n : length c.nodes.result.now ≡ length (nodes_of f) = ap length c.nodes.ensures.items in
+    let e = top_tree (nodes_of f) c.table.result.nodes.now c.len.result c.table.ensures c.len.ensures.count in
+    let n : length c.table.result.nodes.now ≡ length (nodes_of f) = ap length c.table.ensures in
     record {
-      first = c.nodes.ensures.first;
       within = omega arith;
       room = room_made (nodes_of f) _ (held c.new-table.result) f.whole e (omega arith) c.new-table.ensures;
     }
@@ -18,10 +17,9 @@ append-requires c =
 pub invariant_of-result : goal.invariant_of-result
 invariant_of-result c =
     let f = c.args.self.now in
-    let e = top_tree (nodes_of f) c.nodes.result.now c.len.result c.nodes.ensures.items c.len.ensures.count in
+    let e = top_tree (nodes_of f) c.table.result.nodes.now c.len.result c.table.ensures c.len.ensures.count in
     let hs = held c.append.new.out in
     record {
-      few = c.append.new.out.few;
       whole = made_whole (formula_tree f) _ _ hs c.new-table.ensures e c.append.ensures.more;
       normal = made_normal (formula_tree f) _ _ hs c.new-table.ensures e c.append.ensures.more;
       in_order = made_in_order (formula_tree f) _ _ hs c.new-table.ensures e c.append.ensures.more f.in_order;
@@ -30,7 +28,7 @@ invariant_of-result c =
 pub returns : goal.returns
 returns c =
     let f = c.args.self.now in
-    let e = top_tree (nodes_of f) c.nodes.result.now c.len.result c.nodes.ensures.items c.len.ensures.count in
+    let e = top_tree (nodes_of f) c.table.result.nodes.now c.len.result c.table.ensures c.len.ensures.count in
     let hs = held c.append.new.out in
     record {
       tree = made_tree (formula_tree f) _ _ hs c.new-table.ensures e c.append.ensures.more;

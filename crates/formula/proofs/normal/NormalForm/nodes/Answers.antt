@@ -1,6 +1,5 @@
 use Rattle.std.proofs.Common.{◌≡◌, suc, ◌*◌, ◌≤◌, true, length, sym, ap, ◌∙◌, subst, arith, rules}
 use Rattle.std.proofs.lemmas.List.{length-take}
-use Rattle.formula.specs.Evaluation.{parts_first}
 use Rattle.formula.specs.declared.normal.NormalForm.{NormalForm}
 use Rattle.formula.specs.LiteralTable.{all_plain}
 use Rattle.formula.specs.NormalForms.{normal_nodes, normal_tree}
@@ -10,7 +9,7 @@ use Rattle.formula.specs.Words.{words}
 use Rattle.formula.proofs.Growth.{post_length}
 use Rattle.formula.proofs.Monotony.{monotone}
 use Rattle.formula.proofs.NormalTrees.{few_words, normal_size}
-use Rattle.formula.proofs.Parenthood.{one_tree, post_first}
+use Rattle.formula.proofs.Parenthood.{one_tree}
 use Rattle.formula.proofs.PlainTables.{post_plain}
 use Rattle.formula.proofs.normal.NormalForm.nodes.Goals as goal
 
@@ -18,7 +17,7 @@ use Rattle.formula.proofs.normal.NormalForm.nodes.Goals as goal
 nodes_count : (f : NormalForm) → (length (normal_nodes f) ≡ size (normal_tree f)) × (length (normal_nodes f) ≤ 32)
 nodes_count f = (
   ap length (sym f.whole) ∙ post_length 0 (normal_tree f),
-  omega (arith, f.few, length-take f.count f.nodes),
+  omega (arith, f.nodes.few, length-take f.nodes.count f.nodes.items),
 )
 
 pub returns : goal.returns
@@ -27,9 +26,7 @@ returns c =
     record {
       items = search rules;
       tree = subst OneTree (f.whole ∙ sym (search rules)) (one_tree (normal_tree f));
-      first =
-          (let first : parts_first 0 (normal_nodes f) ≡ true = ap (parts_first 0) (sym f.whole) ∙ post_first (normal_tree f) in
-          search rules);
+      first = c.table.result.first;
       count =
           (let exact : length (normal_nodes f) ≡ suc (2 * words (normal_tree f)) = (nodes_count f).0 ∙ normal_size (normal_tree f) f.normal in
           search rules);

@@ -1,17 +1,10 @@
-use Rattle.std.proofs.Common.{sym, ap, arith}
-use Rattle.rules.specs.Numbers.{lot_of}
-use Rattle.rules.proofs.LotNumbers.{lot_hit, lot_miss, lot_end}
+use Rattle.std.proofs.Common.{sym}
+use Rattle.rules.specs.LotNames.{lots_in}
+use Rattle.rules.proofs.LotNumbers.{number_found, number_none}
 use Rattle.rules.proofs.lots.Lots.number_of.Goals as goal
 
-pub returns-then-is : goal.returns-then-is
-returns-then-is c =
-    let e = ap (lot_of c.args.name.now) c.names-names.ensures in
-    omega (arith, c.loop-i.invariant, lot_hit c.args.name.now c.names-names.result.now c.loop-i.i (omega arith) (sym c.if-is.ensures.value))
-
-pub loop-i-preserved : goal.loop-i-preserved
-loop-i-preserved c = omega (arith, c.loop-i.invariant, lot_miss c.args.name.now c.names-names.result.now c.loop-i.i (omega arith) (sym c.if-is.ensures.value))
+pub returns-in_err-at : goal.returns-in_err-at
+returns-in_err-at c = rw c.from_residual.ensures (sym (number_none c.args.name.now (lots_in c.args.self.now) (sym c.in_err-at.ensures)))
 
 pub returns : goal.returns
-returns c =
-    let e = ap (lot_of c.args.name.now) c.names-names.ensures in
-    omega (arith, c.loop-i.invariant, lot_end c.args.name.now c.names-names.result.now c.loop-i.i (omega arith))
+returns c = sym (number_found c.args.name.now (lots_in c.args.self.now) c.in_ok-at.at (sym c.in_ok-at.ensures))

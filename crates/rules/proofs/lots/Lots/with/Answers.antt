@@ -1,7 +1,7 @@
 use Rattle.std.proofs.Common.{sym, ◌∙◌, arith}
 use Rattle.std.proofs.lemmas.Result.{err_from_is_err_and}
 use Rattle.rules.specs.LotNames.{lots_in}
-use Rattle.rules.proofs.AddedLots.{adding_stops, adding_goes_on, adding_ends}
+use Rattle.rules.proofs.AddedLots.{adding_stops, adding_goes_on}
 use Rattle.rules.proofs.lots.Lots.with.Goals as goal
 
 pub returns-in_err-add : goal.returns-in_err-add
@@ -14,6 +14,3 @@ pub loop-named-preserved : goal.loop-named-preserved
 loop-named-preserved c =
     adding_goes_on (lots_in c.loop-named.lots) c.args.names.now c.loop-named.named-index (omega arith) (lots_in c.add.new.self)
     c.in_ok-add.ensures.answer c.in_ok-add.ensures.after ∙ c.loop-named.invariant
-
-pub returns : goal.returns
-returns c = sym (adding_ends (lots_in c.loop-named.lots) c.args.names.now c.loop-named.named-index (omega arith)) ∙ c.loop-named.invariant

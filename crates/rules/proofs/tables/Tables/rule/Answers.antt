@@ -1,16 +1,9 @@
-use Rattle.std.proofs.Common.{sym, arith}
-use Rattle.rules.specs.Entered.{entry_of, entries_in}
-use Rattle.rules.proofs.MarkedRows.{entries_length}
-use Rattle.rules.proofs.Numbered.{none_there, told_item}
+use Rattle.std.proofs.Common.{arith}
+use Rattle.formula.specs.Held.{held}
+use Rattle.rules.specs.Entered.{entry_of}
+use Rattle.rules.proofs.Numbered.{told_item}
 use Rattle.rules.proofs.tables.Tables.rule.Goals as goal
-
-pub returns-in_err-at : goal.returns-in_err-at
-returns-in_err-at c =
-    let t = c.args.self.now in
-    rw c.from_residual.ensures
-    (none_there (entries_in t.given t.rows) c.args.number t.given (sym (entries_length t.given t.rows t.wide t.few)) c.in_err-at.ensures)
 
 pub returns : goal.returns
 returns c =
-    let t = c.args.self.now in
-    told_item entry_of t.rows.rows t.given c.args.number c.in_ok-at.at c.row.result.now (omega (arith, t.wide, t.few)) c.in_ok-at.ensures c.row.ensures
+    told_item entry_of (held c.args.self.now.rules) c.items.result.now c.args.number c.in_ok-row.row c.items.ensures (omega (arith, c.in_ok-row.ensures.0, c.in_ok-row.ensures.1)) c.get.result c.get.ensures.lookup

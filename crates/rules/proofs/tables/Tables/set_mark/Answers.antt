@@ -1,50 +1,69 @@
-use Rattle.std.proofs.Common.{List, length, sym, refl, ap, ◌∙◌}
-use Rattle.rules.specs.Entered.{entries_in}
-use Rattle.rules.specs.Entries.{Entry, all_among}
+use Rattle.std.proofs.Common.{◌≡◌, ◌-◌, ◌<◌, ◌≤◌, List, length, get_or, sym, refl, ap, ◌∙◌, arith, rules}
+use Rattle.std.proofs.lemmas.List.{length-take}
+use Rattle.formula.specs.Held.{held}
+use Rattle.rules.specs.Entered.{entry_of, entries_in}
+use Rattle.rules.specs.Entries.{Entry, Entries, all_among}
 use Rattle.rules.specs.LotNames.{lots_in}
 use Rattle.rules.specs.Marks.{with_mark}
-use Rattle.rules.specs.Striking.{marked}
+use Rattle.rules.specs.Striking.{marked, mark_set}
 use Rattle.rules.specs.Views.{entered}
-use Rattle.rules.proofs.Altered.{length_altered}
-use Rattle.rules.proofs.MarkedRows.{entries_length, entries_marked, among_marked, row_there, row_none, one_marked}
-use Rattle.rules.proofs.Numbered.{altered_there, altered_none}
+use Rattle.rules.proofs.Altered.{altered_absent}
+use Rattle.rules.proofs.MarkedRules.{entries_length, entries_marked, items_marked, among_marked, row_there, row_none, one_marked, entries_there}
+use Rattle.rules.proofs.Numbered.{told_some, told_none}
 use Rattle.rules.proofs.PutBack.{put_back}
 use Rattle.rules.proofs.tables.Tables.set_mark.Goals as goal
 
 pub invariant_of-self : goal.invariant_of-self
 invariant_of-self c =
     let t = c.args.self.now in
-    let i = c.in-Some.at in
+    let i = c.args.number - 1 in
     let n = length (lots_in t.lots) in
+    let x = c.change.ensures.0 in
+    let given = told_some c.args.number (entries_in t.rules) entry_of c.rule.result c.rule.ensures (sym c.is_some.ensures ∙ c.if-is_some.true) in
+    let inside : i < length (held t.rules) = omega (arith, given.0, given.1, entries_length t.rules) in
+    let lent : x ≡ with_mark c.args.mark (get_or (held t.rules) i x) = search rules in
     record {
-      few = t.few;
-      wide = ap length c.set_mark.ensures ∙ length_altered (with_mark c.args.mark) i t.rows.rows ∙ t.wide;
-      over = ap (all_among n) (entries_marked t.given i c.args.mark t.rows c.set_mark.new.self c.set_mark.ensures) ∙ among_marked n i c.args.mark (entries_in t.given t.rows) ∙ t.over;
+      over =
+          ap (all_among n) (entries_marked t.rules c.change.new.self i c.args.mark x inside lent c.change.ensures.2)
+          ∙ among_marked n i c.args.mark (entries_in t.rules)
+          ∙ t.over;
     }
 
-pub returns-in-Some : goal.returns-in-Some
-returns-in-Some c =
+pub returns-then-is_some : goal.returns-then-is_some
+returns-then-is_some c =
     let t = c.args.self.now in
-    let i = c.in-Some.at in
-    let e = ap (λ (es : List Entry). record { lots = lots_in t.lots; rules = es })
-    (entries_marked t.given i c.args.mark t.rows c.set_mark.new.self c.set_mark.ensures
-    ∙ sym (altered_there (entries_in t.given t.rows) (marked c.args.mark) c.args.number t.given i c.in-Some.ensures)) in
+    let n = c.args.number in
+    let i = n - 1 in
+    let b = c.args.mark in
+    let x = c.change.ensures.0 in
+    let given = told_some n (entries_in t.rules) entry_of c.rule.result c.rule.ensures (sym c.is_some.ensures ∙ c.if-is_some.true) in
+    let inside : i < length (held t.rules) = omega (arith, given.0, given.1, entries_length t.rules) in
+    let few : n ≤ t.rules.count = omega (arith, given.1, entries_length t.rules, length-take t.rules.count t.rules.items) in
+    let lent : x ≡ with_mark b (get_or (held t.rules) i x) = search rules in
+    let new : Entries = record { lots = lots_in t.lots; rules = entries_in c.change.new.self } in
+    let e : new ≡ mark_set n b (entered t) = ap (λ (es : List Entry). record { lots = lots_in t.lots; rules = es })
+    (entries_marked t.rules c.change.new.self i b x inside lent c.change.ensures.2 ∙ sym (entries_there n b (entries_in t.rules) given.0)) in
     record {
       after = e;
-      only = one_marked c.args.number c.args.mark (entered t) _ e;
+      only = one_marked n b (entered t) new e;
       back = put_back;
-      fields = record { rows = c.set_mark.ensures ∙ sym (row_there t.given c.args.number i c.args.mark t.rows.rows c.in-Some.ensures); lots = refl; given = refl };
+      fields = record {
+        rows = items_marked t.rules c.change.new.self i b x inside lent c.change.ensures.3 ∙ sym (row_there t.rules.count n b t.rules.items given.0 few);
+        lots = refl;
+        given = c.change.ensures.4;
+      };
     }
 
-pub returns-in_default : goal.returns-in_default
-returns-in_default c =
+pub returns-else-is_some : goal.returns-else-is_some
+returns-else-is_some c =
     let t = c.args.self.now in
-    let m = entries_length t.given t.rows t.wide t.few in
-    let e = ap (λ (es : List Entry). record { lots = lots_in t.lots; rules = es })
-    (sym (altered_none (entries_in t.given t.rows) (marked c.args.mark) c.args.number t.given (sym m) c.in_default.ensures)) in
+    let n = c.args.number in
+    let b = c.args.mark in
+    let none = told_none n (entries_in t.rules) entry_of c.rule.result c.rule.ensures (sym c.is_some.ensures ∙ c.if-is_some.false) in
+    let e : entered t ≡ mark_set n b (entered t) = ap (λ (es : List Entry). record { lots = lots_in t.lots; rules = es }) (sym (altered_absent (marked b) n (entries_in t.rules) none)) in
     record {
       after = e;
-      only = one_marked c.args.number c.args.mark (entered t) _ e;
+      only = one_marked n b (entered t) (entered t) e;
       back = put_back;
-      fields = record { rows = sym (row_none t.given c.args.number c.args.mark t.rows.rows c.in_default.ensures); lots = refl; given = refl };
+      fields = record { rows = sym (row_none t.rules.count n b t.rules.items none); lots = refl; given = refl };
     }

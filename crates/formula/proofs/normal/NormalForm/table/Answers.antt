@@ -1,0 +1,10 @@
+use Rattle.std.proofs.Common.{sym, ap, ◌∙◌}
+use Rattle.formula.specs.Evaluation.{parts_first}
+use Rattle.formula.specs.NormalForms.{normal_tree}
+use Rattle.formula.proofs.Parenthood.{post_first}
+use Rattle.formula.proofs.normal.NormalForm.table.Goals as goal
+
+pub invariant_of-result : goal.invariant_of-result
+invariant_of-result c =
+    let f = c.args.self.now in
+    record { first = ap (parts_first 0) (c.items.ensures ∙ sym f.whole) ∙ post_first (normal_tree f) }

@@ -1,0 +1,42 @@
+ghost use Rattle.std.specs.Prelude.{◌≡◌, ℕ, ◌≤◌, Bool, false, length};
+ghost use Rattle.formula.specs.declared.node.Pair.{Pair as PairOf};
+ghost use Rattle.formula.specs.Formulas.{formula_tree};
+ghost use Rattle.formula.specs.Scales.{two};
+ghost use Rattle.formula.specs.Tests.{Computes};
+ghost use Rattle.formula.specs.Truth.{truth};
+ghost use Rattle.formula.specs.TruthLaws.{LeafTruths};
+
+use crate::evaluation::fill;
+use crate::formula::Formula;
+use crate::node::{Node, Pair};
+
+// The truth of each pair of a table, at the pair's own index.
+fn leaf_truths<F: Fn(Pair<usize>) -> bool>(nodes: &[Node<Pair<usize>>], is_true: F) -> [bool; 32]
+    requires test { F.IsAlwaysCallable is_true }
+    requires few { length nodes.now ≤ 32 }
+    ensures wide { length result ≡ 32 }
+    ensures truths { (v : PairOf ℕ → Bool) → Computes (F.post is_true) v → LeafTruths v false nodes.now result }
+{
+    let mut truths = [false; 32];
+    for (i, node) in nodes.iter().enumerate() {
+        if let Node::Leaf(pair) = node {
+            truths[i] = is_true(*pair);
+        }
+    }
+    truths
+}
+
+impl Formula {
+    /// Its truth by yes and no, where a test says which pairs are true.
+    pub fn truth<F: Fn(Pair<usize>) -> bool>(&self, is_true: F) -> bool
+        requires test { F.IsAlwaysCallable is_true }
+        ensures { (v : PairOf ℕ → Bool) → Computes (F.post is_true) v → result ≡ truth two v (formula_tree self.now) }
+    {
+        let last = self.len() - 1;
+        let table = self.table();
+        let leaves = leaf_truths(table.nodes, is_true);
+        let mut truths = [false; 32];
+        fill(&table, &leaves, &mut truths);
+        truths[last]
+    }
+}
