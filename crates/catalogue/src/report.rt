@@ -102,7 +102,7 @@ fn learn(names: &mut Vec<Name>, rule: &Line) -> Result<(), AllocError>
     Ok(())
 }
 
-/// A truth as it is printed.
+/// A truth as it is printed: as an answer, where a `bool` prints as true or false.
 fn word(truth: bool) -> &'static str
     ensures { result.now ≡ spoken truth }
 {
@@ -132,7 +132,7 @@ fn refusal_text(heap: Global, line: &[u8], fault: RuleFault) -> Result<String, A
 {
     let number = fault.number();
     let carried = fault.carried();
-    let layer = fault.layer().word();
+    let layer = fault.layer();
     let shown = readable(heap, line)?;
     let mut text = format!(in heap; "R {number} {carried} {layer}\n  |{shown}|\n")?;
     if let Some(at) = place(fault) {

@@ -5,7 +5,7 @@ use std::alloc::AllocError;
 pub mod list;
 
 /// A list of at most `N` items, held in place. It is no `ArrayVec`, since that is never `Copy`, and
-/// formulas are.
+/// formulas are; nor do its items need a `Default`, which tokens and names have none of.
 pub struct Bounded<T, const N: usize> {
     pub(crate) items: [T; N],
     pub(crate) count: usize,

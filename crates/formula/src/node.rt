@@ -1,3 +1,6 @@
+/// A formula has at most so many nodes.
+pub const MAX_NODES: usize = 32;
+
 /// Two atoms that shall fire together. An atom is a name of a line, or a lot of a book.
 #[derive(Clone, Copy)]
 pub struct Pair<A> {

@@ -1,10 +1,13 @@
 ghost use Rattle.std.specs.Prelude.{◌≡◌, ℕ, true, ◌↔◌, List};
 ghost use Rattle.grammar.specs.Names.{same, stored, Decoded};
 
+/// A name has at most so many decoded bytes.
+pub const NAME_BYTES: usize = 12;
+
 /// A name as it is stored: its decoded bytes, and zeros up to twelve.
 #[derive(Clone, Copy, PartialEq, Eq)]
 pub struct Name {
-    bytes: [u8; 12],
+    bytes: [u8; NAME_BYTES],
 }
 
 /// A name and the place in the line where it stands.
@@ -16,7 +19,7 @@ pub struct Named {
 
 impl Name {
     /// The name that is stored so.
-    pub fn new(bytes: [u8; 12]) -> Self
+    pub fn new(bytes: [u8; NAME_BYTES]) -> Self
         ensures { result.bytes ≡ bytes }
     {
         Name { bytes }
@@ -29,7 +32,7 @@ impl Name {
         &self.bytes
     }
 
-    /// Whether it is the same name: the one test of names. It says so exactly when the decoded bytes are equal.
+    /// Whether it is the same name, which is what `==` tests: so it is exactly when the decoded bytes are equal.
     #[tactic(auto, using(crate::proofs::Padding::same_stored))]
     pub fn is(&self, other: &Name) -> bool
         ensures value { result ≡ same self.now.bytes other.now.bytes }

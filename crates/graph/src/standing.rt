@@ -7,7 +7,7 @@ pub mod taking;
 /// The lots that stand: all at first, and then those that were not taken out.
 #[derive(Clone, Copy)]
 pub struct Standing {
-    // No list with room: flags are cleared in place, which one would have to learn.
+    // No bounded list: that begins empty, so all flags would have to be pushed one by one first.
     flags: [bool; MAX_LOTS],
     lots: usize,
     ghost few: { lots ≤ 24 },

@@ -2,6 +2,7 @@ ghost use Rattle.std.specs.Prelude.{◌≡◌, Some};
 ghost use Rattle.reading.specs.Numbers.{number_of, carried_of, layer_of, layer_word};
 ghost use Rattle.reading.specs.declared.fault.RuleFault.TheVariants.{Text};
 
+use crate::reader::LINE_BYTES;
 use std::fmt;
 
 /// What is wrong with the text of a line.
@@ -59,7 +60,7 @@ impl RuleFault {
         ensures { result ≡ carried_of self }
     {
         match self {
-            RuleFault::Text(TextFault::LineTooLong) => 512,
+            RuleFault::Text(TextFault::LineTooLong) => LINE_BYTES,
             RuleFault::Text(TextFault::WrongByte(place) | TextFault::NameTooLong(place)) => place,
             RuleFault::OutOfGrammar(place) => place,
             RuleFault::TooManyNodes(words) => words,

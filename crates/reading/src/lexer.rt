@@ -5,11 +5,8 @@ ghost use Rattle.reading.specs.Scan.{run_of, word_of, decoded};
 ghost use Rattle.reading.specs.Lexing.{word_at, letter_of, name_of, seen_at};
 
 use crate::fault::TextFault;
-use grammar::name::{Name, Named};
+use grammar::name::{NAME_BYTES, Name, Named};
 use grammar::token::Token;
-
-/// A name has at most so many decoded bytes.
-const NAME_BYTES: usize = 12;
 
 /// Whether a name runs on over a byte.
 fn in_name(b: u8) -> bool

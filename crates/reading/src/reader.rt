@@ -7,6 +7,7 @@ ghost use Rattle.reading.specs.Lines.{WellRead};
 
 use crate::fault::{RuleFault, TextFault};
 use crate::scanner::scan;
+use formula::node;
 use grammar::build::build;
 use grammar::line::Line;
 use grammar::token::Token;
@@ -15,7 +16,7 @@ use grammar::token::Token;
 pub const LINE_BYTES: usize = 512;
 
 /// A rule has at most so many nodes, one for each word.
-pub const MAX_NODES: usize = 32;
+pub const MAX_NODES: usize = node::MAX_NODES;
 
 /// Whether a line is short enough.
 fn measure(line: &[u8]) -> Result<(), TextFault>

@@ -5,6 +5,7 @@ ghost use Rattle.reading.specs.Lexing.{edge_first, checked_at, held_tokens};
 
 use crate::fault::{RuleFault, TextFault};
 use crate::lexer;
+use crate::reader::LINE_BYTES;
 use formula::bounded::Bounded;
 use grammar::state::State;
 use grammar::token::Token;
@@ -38,7 +39,7 @@ fn is_tight(token: Token) -> bool
 ///
 /// A token is given to the grammar before the byte after it is looked at, since it stands further left.
 /// A place is counted along: tokens have more than one byte, and carry the place where they stand.
-pub(crate) fn scan(line: &[u8]) -> Result<Bounded<Token, 512>, RuleFault>
+pub(crate) fn scan(line: &[u8]) -> Result<Bounded<Token, LINE_BYTES>, RuleFault>
     requires short { length line.now ≤ 512 }
     ensures { held_tokens result ≡ scanned line.now }
 {

@@ -4,7 +4,8 @@ ghost use Rattle.rules.specs.Keeping.{kept_in, by_lot};
 
 use formula::formula::Formula;
 
-/// The firing of a lot, by its number from 1, or 0 where the list has none for it.
+/// The firing of a lot, by its number from 1. A number that is no lot's gets one too, so that nothing is asked
+/// of the list: no rule has such a number.
 fn firing(firings: &[usize], lot: usize) -> usize
     ensures { result ≡ by_lot firings.now lot }
 {

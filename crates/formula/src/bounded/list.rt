@@ -1,6 +1,6 @@
-ghost use Rattle.std.specs.Prelude.{◌≡◌, ℕ, ◌<◌, List, ◌∷◌, ◌++◌, length, slice_index_or, slice_set};
+ghost use Rattle.std.specs.Prelude.{◌≡◌, ℕ, ◌<◌, List, ◌∷◌, ◌++◌, length, slice_index_or};
 ghost use Rattle.std.specs.Fn.{FnOnceReturnsAtMut};
-ghost use Rattle.formula.specs.Held.{held};
+ghost use Rattle.formula.specs.Held.{held, Changed};
 
 use crate::bounded::Bounded;
 
@@ -42,11 +42,11 @@ impl<T: Copy, const N: usize> Bounded<T, N> {
         at
     }
 
-    /// Lends one item to be changed.
+    /// Hands one item over to be changed, and writes it back.
     pub fn change<F: FnOnce(&mut T)>(&mut self, at: usize, change: F)
         requires inside { at < length (held self.old) }
         requires change { F.IsAlwaysCallable change }
-        ensures { (item : T) × FnOnceReturnsAtMut F.FnOnce change (slice_index_or (held self.old) at item) tt item × (held self.new ≡ slice_set (held self.old) at item) × (self.new.items ≡ slice_set self.old.items at item) × (self.new.count ≡ self.old.count) }
+        ensures { (item : T) × FnOnceReturnsAtMut F.FnOnce change (slice_index_or (held self.old) at item) tt item × Changed self.old self.new at item }
     {
         let mut item = self.items[at];
         change(&mut item);

@@ -8,12 +8,12 @@ ghost use Rattle.formula.specs.Tree.{spans};
 
 use crate::bounded::Bounded;
 use crate::formula::Formula;
-use crate::node::{Node, Pair};
+use crate::node::{MAX_NODES, Node, Pair};
 use crate::table::Table;
 
 impl Formula {
     /// The formula whose table this is.
-    pub fn new(table: Bounded<Node<Pair<usize>>, 32>) -> Self
+    pub fn new(table: Bounded<Node<Pair<usize>>, MAX_NODES>) -> Self
         requires whole { post 0 (tree_of (held table)) ≡ held table }
         requires in_order { spans pair_place 0 512 (tree_of (held table)) ≡ true }
         ensures { nodes_of result ≡ held table }

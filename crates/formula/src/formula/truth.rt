@@ -8,16 +8,19 @@ ghost use Rattle.formula.specs.TruthLaws.{LeafTruths};
 
 use crate::evaluation::fill;
 use crate::formula::Formula;
-use crate::node::{Node, Pair};
+use crate::node::{MAX_NODES, Node, Pair};
 
 // The truth of each pair of a table, at the pair's own index.
-fn leaf_truths<F: Fn(Pair<usize>) -> bool>(nodes: &[Node<Pair<usize>>], is_true: F) -> [bool; 32]
+fn leaf_truths<F: Fn(Pair<usize>) -> bool>(
+    nodes: &[Node<Pair<usize>>],
+    is_true: F,
+) -> [bool; MAX_NODES]
     requires test { F.IsAlwaysCallable is_true }
     requires few { length nodes.now ≤ 32 }
     ensures wide { length result ≡ 32 }
     ensures truths { (v : PairOf ℕ → Bool) → Computes (F.post is_true) v → LeafTruths v false nodes.now result }
 {
-    let mut truths = [false; 32];
+    let mut truths = [false; MAX_NODES];
     for (i, node) in nodes.iter().enumerate() {
         if let Node::Leaf(pair) = node {
             truths[i] = is_true(*pair);
@@ -35,7 +38,7 @@ impl Formula {
         let last = self.len() - 1;
         let table = self.table();
         let leaves = leaf_truths(table.nodes, is_true);
-        let mut truths = [false; 32];
+        let mut truths = [false; MAX_NODES];
         fill(&table, &leaves, &mut truths);
         truths[last]
     }

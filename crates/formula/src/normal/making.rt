@@ -11,7 +11,7 @@ ghost use Rattle.formula.specs.Tree.{size};
 use crate::bounded::Bounded;
 use crate::formula::Formula;
 use crate::literal::Literal;
-use crate::node::{Node, Pair};
+use crate::node::{MAX_NODES, Node, Pair};
 use crate::normal::NormalForm;
 use crate::table::Table;
 
@@ -32,7 +32,7 @@ fn append(
     table: &Table<Pair<usize>>,
     at: usize,
     positive: bool,
-    out: &mut Bounded<Node<Literal>, 32>,
+    out: &mut Bounded<Node<Literal>, MAX_NODES>,
 ) -> usize
     requires within { at < length table.now.nodes.now }
     requires room { length (held out.old) + size (nnf positive (node_tree table.now.nodes.now at)) ≤ 32 }

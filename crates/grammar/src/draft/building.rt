@@ -5,7 +5,8 @@ ghost use Rattle.grammar.specs.Drafts.{nodes_in, names_in};
 ghost use Rattle.grammar.specs.Names.{find, is_named, enlist, pair_in};
 
 use crate::draft::Draft;
-use crate::name::{Name, Named};
+use crate::line::MAX_NAMES;
+use crate::name::{NAME_BYTES, Name, Named};
 use formula::bounded::Bounded;
 use formula::node::{Node, Pair};
 
@@ -18,7 +19,7 @@ fn number_in(names: &[Named], name: Name) -> Option<usize>
 
 /// The number of a name, which is added where it does not stand yet.
 #[tactic(auto, using(crate::proofs::Numbering::find_none))]
-fn number(names: &mut Bounded<Named, 64>, named: Named) -> usize
+fn number(names: &mut Bounded<Named, MAX_NAMES>, named: Named) -> usize
     requires room { length (held names.old) < 64 }
     ensures number { result ≡ find named.name (held names.old) }
     ensures names { held names.new ≡ enlist (held names.old) named }
@@ -37,7 +38,7 @@ impl Draft {
     {
         let nobody = Named {
             place: 0,
-            name: Name::new([0; 12]),
+            name: Name::new([0; NAME_BYTES]),
         };
         Draft {
             nodes: Bounded::new(Node::Not { place: 0, part: 0 }),

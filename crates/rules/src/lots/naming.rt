@@ -8,14 +8,14 @@ use crate::fault::TakeFault;
 use crate::lots::Lots;
 use crate::tables::MAX_LOTS;
 use formula::bounded::Bounded;
-use grammar::name::{Name, Named};
+use grammar::name::{NAME_BYTES, Name, Named};
 
 impl Lots {
     /// No lots.
     pub fn new() -> Self
         ensures { lots_in result ≡ List.[] }
     {
-        let names = Bounded::new(Name::new([0; 12]));
+        let names = Bounded::new(Name::new([0; NAME_BYTES]));
         Lots { names }
     }
 

@@ -27,7 +27,7 @@ impl Counter {
     fn advance(&mut self)
         ensures { older (counter_state self.new) ≡ counter_next (counter_state self.old) (last_false (counter_state self.old).values) }
     {
-        let held = &mut self.held; // lent until every variable has a value again
+        let held = &mut self.held; // one loan, since a counter is whole only when every variable has a value again
         if held.turn() {
             held.fill();
         } else {

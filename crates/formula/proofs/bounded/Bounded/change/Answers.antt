@@ -10,4 +10,4 @@ returns g c =
     let room : c.args.at < length b.items = omega (arith, length-take b.count b.items) in
     let new = c.change.new.arg2 in
     let lent = get_or_default b.items c.args.at _ new room ∙ sym (get_or-take b.count b.items c.args.at new inside) in
-    (new, record { shown = _; shows = lent; left = _; met = c.change.ensures; leaves = refl }, take-set-lt b.count b.items c.args.at new inside, refl, refl)
+    (new, record { shown = _; shows = lent; left = _; met = c.change.ensures; leaves = refl }, (take-set-lt b.count b.items c.args.at new inside, refl, refl))

@@ -24,7 +24,7 @@ invariant_of-self c =
     let lent : x ≡ with_mark c.args.mark (get_or (held t.rules) i x) = search rules in
     record {
       over =
-          ap (all_among n) (entries_marked t.rules c.change.new.self i c.args.mark x inside lent c.change.ensures.2)
+          ap (all_among n) (entries_marked t.rules c.change.new.self i c.args.mark x inside lent c.change.ensures.2.0)
           ∙ among_marked n i c.args.mark (entries_in t.rules)
           ∙ t.over;
     }
@@ -42,15 +42,15 @@ returns-then-is_some c =
     let lent : x ≡ with_mark b (get_or (held t.rules) i x) = search rules in
     let new : Entries = record { lots = lots_in t.lots; rules = entries_in c.change.new.self } in
     let e : new ≡ mark_set n b (entered t) = ap (λ (es : List Entry). record { lots = lots_in t.lots; rules = es })
-    (entries_marked t.rules c.change.new.self i b x inside lent c.change.ensures.2 ∙ sym (entries_there n b (entries_in t.rules) given.0)) in
+    (entries_marked t.rules c.change.new.self i b x inside lent c.change.ensures.2.0 ∙ sym (entries_there n b (entries_in t.rules) given.0)) in
     record {
       after = e;
       only = one_marked n b (entered t) new e;
       back = put_back;
       fields = record {
-        rows = items_marked t.rules c.change.new.self i b x inside lent c.change.ensures.3 ∙ sym (row_there t.rules.count n b t.rules.items given.0 few);
+        rows = items_marked t.rules c.change.new.self i b x inside lent c.change.ensures.2.1 ∙ sym (row_there t.rules.count n b t.rules.items given.0 few);
         lots = refl;
-        given = c.change.ensures.4;
+        given = c.change.ensures.2.2;
       };
     }
 
