@@ -42,9 +42,6 @@ def functions():
     for path, text in sources():
         crate = path.split("/")[1]
         for m in re.finditer(r"\bfn (\w+)(?:<[^>{]*>)?\(([^)]*)\)", text, re.S):
-            at = text.find("\n{", m.end())
-            inner = text.find(" {\n", m.end())
-            indent = re.search(r"[ ]*$", text[: text.rfind("\n", 0, m.start()) + 1]).group()
             end = re.search(r"\n( {0,4})\}", text[m.end():])
             body = text[m.end(): m.end() + end.end()] if end else ""
             names = [p.split(":")[0].replace("mut ", "").strip() for p in m.group(2).split(",") if ":" in p]
