@@ -1,7 +1,9 @@
 -- A chain of steps that ends where the budget or the search does is the run that is written out. Rests on specs/States and specs/Searching.
-use Rattle.std.proofs.Common.{◌≡◌, ℕ, zero, suc, ◌+◌, ◌-◌, ◌≤◌, ◌⊎◌, List, sym, refl, ap, ◌∙◌, inl, inr, ⊎_elim, arith}
+use Rattle.std.proofs.Common.{◌≡◌, ℕ, zero, suc, ◌+◌, ◌-◌, ◌≤◌, ◌⊎◌, cond, ◌&&◌, leb, List, Some, None, sym, refl, ap, ◌∙◌, inl, inr, ⊎_elim, arith}
 use Rattle.std.proofs.lemmas.Bool.{cond-true, cond-false}
-use Rattle.search.specs.Searching.{View, Stepped, here, on, outcome, steps_of, Answers}
+use Rattle.clauses.specs.Meaning.{assigned}
+use Rattle.search.specs.Runs.{shown_of}
+use Rattle.search.specs.Searching.{View, Stepped, here, on, is_found, told, outcome, steps_of, Answers}
 use Rattle.search.specs.States.{State, is_working, iterated}
 use Rattle.search.specs.declared.status.Status.{Status}
 use Rattle.search.specs.declared.status.Status.TheVariants.{Working, Found, Refuted}
@@ -13,6 +15,13 @@ pub steps_outcome : (s : Status) (n : ℕ) → steps_of (outcome s n) ≡ n
 steps_outcome Working n = refl
 steps_outcome Found n = refl
 steps_outcome Refuted n = refl
+
+-- a searcher shows what the state that it holds shows
+pub told_shown : (w : View) (s : State) → w.status ≡ s.status → w.variables ≡ s.variables → ((v : ℕ) → w.shown v ≡ assigned s.values v) → (v : ℕ) → told w v ≡ shown_of s v
+told_shown w s status variables shown v =
+    ap (λ x. cond (is_found x && (leb 1 v && leb v w.variables)) (Some (w.shown v)) None) status
+    ∙ ap (λ n. cond (is_found s.status && (leb 1 v && leb v n)) (Some (w.shown v)) None) variables
+    ∙ ap (λ b. cond (is_found s.status && (leb 1 v && leb v s.variables)) (Some b) None) (shown v)
 
 pub cases_working : (s : Status) → (s ≡ Working) ⊎ (s ≡ Working → ⊥)
 cases_working Working = inl refl

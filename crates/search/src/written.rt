@@ -1,4 +1,5 @@
 ghost use Rattle.std.specs.Prelude.{◌≡◌, ℕ, List};
+ghost use Rattle.clauses.specs.Meaning.{assigned};
 ghost use Rattle.search.specs.Limits.{capped};
 ghost use Rattle.search.specs.States.{State};
 
@@ -19,6 +20,10 @@ pub trait Written: Searcher {
     ghost status_shown: { (s : Self) → (Self.view s).status ≡ (state s).status };
 
     ghost age_shown: { (s : Self) → (Self.view s).age ≡ (state s).age };
+
+    ghost variables_shown: { (s : Self) → (Self.view s).variables ≡ (state s).variables };
+
+    ghost values_shown: { (s : Self) (v : ℕ) → (Self.view s).shown v ≡ assigned (state s).values v };
 
     ghost starts: { (s t : Self) (variables : ℕ) → Self.begins s variables t → state t ≡ start (capped variables) };
 

@@ -100,6 +100,10 @@ impl Written for Walker {
 
     ghost age_shown = { λ _. refl };
 
+    ghost variables_shown = { λ _. refl };
+
+    ghost values_shown = { λ _ _. refl };
+
     ghost starts = { λ _ _ _ e. e };
 
     ghost goes_on = { λ _ _ _ e. e };

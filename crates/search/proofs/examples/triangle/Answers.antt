@@ -7,4 +7,4 @@ use Rattle.search.proofs.examples.triangle.Goals as goal
 
 pub returns : goal.returns
 unfolding false_code first_below first_false_row last_of filled stepped iterated counter_move prefix_of walker_move
-returns c = record { counted = c.run_both.ensures.counted; walked = c.run_both.ensures.walked; examples = worked }
+returns c = record { counted = c.both.ensures.counted; walked = c.both.ensures.walked; examples = worked }

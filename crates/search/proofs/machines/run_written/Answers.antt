@@ -1,8 +1,8 @@
 use Rattle.std.proofs.Common.{◌≡◌, ap, ◌∙◌}
-use Rattle.search.specs.Runs.{run_of, answered}
+use Rattle.search.specs.Runs.{run_of, answered, shown_of}
 use Rattle.search.specs.Searching.{outcome}
 use Rattle.search.specs.States.{iterated}
-use Rattle.search.proofs.Iterations.{run_written}
+use Rattle.search.proofs.Iterations.{run_written, told_shown}
 use Rattle.search.proofs.machines.run_written.Goals as goal
 
 pub returns : goal.returns
@@ -18,4 +18,5 @@ returns g c =
     record {
       answer = c.run.ensures.answers.answer ∙ ap (λ s. outcome s (g.S.Searcher.view t).age) (law.status_shown t) ∙ ap (outcome (m.state t).status) (law.age_shown t) ∙ ap answered is;
       after = is;
+      shown = λ v. told_shown (g.S.Searcher.view t) (m.state t) (law.status_shown t) (law.variables_shown t) (law.values_shown t) v ∙ ap (λ s. shown_of s v) is;
     }
