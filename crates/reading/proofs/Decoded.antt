@@ -4,6 +4,7 @@ use mathlib.Core.Bool.{false≢true}
 use Rattle.std.proofs.lemmas.Bool.{and_parts, or_parts, or_from, eqb-true, cond-true, cond-false}
 use Rattle.reading.specs.Bytes.{plain}
 use Rattle.reading.specs.Decoding.{starts, first_of, Runs, stops, itself, ampersand, reference}
+use Rattle.reading.specs.Laws.{DecodedExactly}
 use Rattle.reading.specs.Scan.{behind, extra, decoded}
 use Rattle.reading.proofs.Tests.{unlike}
 
@@ -108,3 +109,19 @@ module _ (sp : List (List ℕ)) where
     where
       pair_eq : {p q : List ℕ × ℕ} → p.0 ≡ q.0 → p.1 ≡ q.1 → p ≡ q
       pair_eq {p} {q} e f = ap (λ x. (x, p.1)) e ∙ ap (λ y. (q.0, y)) f
+
+-- both ways at once
+pub decoded_exactly : DecodedExactly
+decoded_exactly sp bs r n = (there, back)
+  where
+    there : Runs sp bs r n → ((decoded sp 0 bs).0 ≡ n) × ((decoded sp 0 bs).1 ≤ length bs) × (drop (decoded sp 0 bs).1 bs ≡ r)
+    there x =
+        let g = runs_decoded sp x in
+        let c : (decoded sp 0 bs).1 ≡ g.count = ap (λ (p : List ℕ × ℕ). p.1) g.is in
+        let l = g.fits in
+        (ap (λ (p : List ℕ × ℕ). p.0) g.is, omega arith, ap (λ k. drop k bs) c ∙ g.leaves)
+
+    back : ((decoded sp 0 bs).0 ≡ n) × ((decoded sp 0 bs).1 ≤ length bs) × (drop (decoded sp 0 bs).1 bs ≡ r) → Runs sp bs r n
+    back h =
+        let d = decoded_runs sp bs 0 (omega arith) in
+        subst (λ m. Runs sp bs r m) h.0 (subst (λ q. Runs sp bs q (decoded sp 0 bs).0) h.2 d.1)

@@ -1,10 +1,13 @@
 -- What is known of every line that is taken.
 use Rattle.std.proofs.Common.{◌≡◌, ℕ, zero, suc, ◌<◌, ◌≤◌, Bool, true, false, List, [], ◌∷◌, length, Ok, Err, sym, refl, ap, ◌∙◌, subst, ⊎_elim, arith}
 use Rattle.std.proofs.lemmas.Bool.{false≢true, cases_lt}
+use Rattle.std.proofs.lemmas.List.{length-take}
 use Rattle.std.specs.List.{AllByRecursion}
-use Rattle.formula.specs.Formulas.{formula_tree}
+use Rattle.formula.specs.Formulas.{nodes_of, formula_tree}
+use Rattle.formula.specs.Table.{post}
 use Rattle.formula.specs.Tree.{size}
 use Rattle.formula.proofs.Growth.{post_length}
+use Rattle.formula.proofs.Parenthood.{some_node}
 use Rattle.grammar.specs.declared.level.Level.TheVariants.{Rule}
 use Rattle.grammar.specs.declared.line.Line.{Line}
 use Rattle.grammar.specs.declared.token.Token.{Token}
@@ -84,6 +87,15 @@ short bs a x (faulty l h) e = absurd (err_ok e)
 short bs a x (too_many l s y w) e = l
 short bs a x (taken l s y w) e = l
 
+-- a formula's type says how many nodes there are at most, and that it has a tree
+node_bounds : (l : Line) → (1 ≤ length (nodes_of l.formula)) × (length (nodes_of l.formula) ≤ 32)
+node_bounds l =
+    let some = some_node (formula_tree l.formula) in
+    let same : length (post 0 (formula_tree l.formula)) ≡ length (nodes_of l.formula) = ap length l.formula.whole in
+    let taken = length-take l.formula.nodes.count l.formula.nodes.items in
+    let most = l.formula.nodes.few in
+    (omega arith, omega arith)
+
 pub well_read : (bs : List ℕ) (l : Line) → Owed bs (Ok (said l)) → WellRead bs l
 well_read bs l o =
     let c = came bs (Ok (said l)) (said l) o.1 refl in
@@ -93,6 +105,7 @@ well_read bs l o =
       nodes = λ ts t s y.
           let e : formula_tree l.formula ≡ (reading_of t).tree = ap (λ (x : Reading). x.tree) (same_reading bs (said l) o few ts t s y) in
           ap length (sym l.formula.whole) ∙ post_length 0 (formula_tree l.formula) ∙ ap size e ∙ size_numbered (listed [] (names_of t)) t ∙ word_nodes y;
+      bounds = node_bounds l;
       names = λ ts t s y. ap (λ (x : Reading). x.names) (same_reading bs (said l) o few ts t s y) ∙ ap (listed []) (sym (names_in_line y));
       once = subst EachOnce (sym ns) (listed_once [] (names_of c.rule) (λ i h. absurd (let z : ⊥ = omega arith in z)));
       decoded = subst (AllByRecursion IsStored) (sym ns) (listed_all IsStored [] (names_of c.rule) tt (subst (AllByRecursion IsStored) (names_in_line c.is) (spelt_names c.spells.1)));

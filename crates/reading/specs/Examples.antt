@@ -1,20 +1,36 @@
--- Worked examples of lines, taken and refused, as one statement. Rests on Reading.
-use Rattle.std.specs.Prelude.{◌≡◌, ℕ, List, [], ◌∷◌, ◌++◌, Ok, Err, codes, replicate}
+-- Worked examples of lines, taken and refused, as one statement. Rests on Reading and Numbers.
+use Rattle.std.specs.Prelude.{◌≡◌, ℕ, zero, suc, List, [], ◌∷◌, ◌++◌, Some, None, Ok, Err, Option, codes, replicate}
 use Rattle.formula.specs.declared.node.Pair.{Pair}
 use Rattle.formula.specs.Tree.{Tree, leaf, not, and, or, then}
 use Rattle.grammar.specs.declared.name.Named.{Named}
 use Rattle.grammar.specs.Names.{stored}
 use Rattle.reading.specs.Answers.{Answer}
+use Rattle.reading.specs.Numbers.{number_of, carried_of, layer_of}
 use Rattle.reading.specs.Reading.{reading}
 use Rattle.reading.specs.declared.fault.RuleFault.{RuleFault}
 use Rattle.reading.specs.declared.fault.RuleFault.TheVariants.{Text, OutOfGrammar, TooManyNodes}
 use Rattle.reading.specs.declared.fault.TextFault.TheVariants.{LineTooLong, WrongByte, NameTooLong}
+use Rattle.reading.specs.declared.fault.Layer.{Layer}
+use Rattle.reading.specs.declared.fault.Layer.TheVariants as layer
 
 abbrev pub Refused : List ℕ → RuleFault → Type 0
 Refused bs f = ◌≡◌ {A = Answer} (reading bs) (Err f)
 
 abbrev pub Taken : List ℕ → Tree (Pair ℕ) → List Named → Type 0
 Taken bs t ns = ◌≡◌ {A = Answer} (reading bs) (Ok (record { tree = t; names = ns }))
+
+-- the number of a refusal, what it carries, and its layer
+abbrev pub numbers_of : Answer → Option (ℕ × ℕ × Layer)
+numbers_of (Ok x) = None
+numbers_of (Err f) = Some (number_of f, carried_of f, layer_of f)
+
+abbrev pub Numbered : List ℕ → ℕ → ℕ → Layer → Type 0
+Numbered bs n c l = numbers_of (reading bs) ≡ Some (n, c, l)
+
+-- `A with A and ` so many times, 13 bytes and two words each time, before others
+abbrev pub behind_many : ℕ → List ℕ → List ℕ
+behind_many zero bs = bs
+behind_many (suc k) bs = codes "A with A and " ++ behind_many k bs
 
 -- a name at a place, and a pair of numbers whose `with` stands at a place
 abbrev pub at : ℕ → List ℕ → Named
@@ -100,3 +116,14 @@ pub record Examples : Type 0 where
   pub taken_11 : Taken (codes "A with B or B with C and not C with A") (or 9 (pair 2 0 1) (and 21 (pair 14 1 2) (not 25 (pair 31 2 0)))) (at 0 (codes "A") ∷ at 7 (codes "B") ∷ at 19 (codes "C") ∷ [])
   -- 252 parentheses around `A with B`
   pub taken_deep : Taken (replicate 252 40 ++ (codes "A with B" ++ replicate 252 41)) (pair 254 0 1) (at 252 (codes "A") ∷ at 259 (codes "B") ∷ [])
+  -- numbers, carried numbers and layers: `A wiht B`, 513 spaces, `ABCDEFGHIJKLM with B`, `A with`, and 33 and 41 words that fit
+  pub numbered_wrong : Numbered (codes "A wiht B") 3 2 layer.Text
+  pub numbered_long : Numbered (replicate 513 32) 2 512 layer.Text
+  pub numbered_name : Numbered (codes "ABCDEFGHIJKLM with B") 4 0 layer.Text
+  pub numbered_early : Numbered (codes "A with") 5 6 layer.Rule
+  pub numbered_many : Numbered (behind_many 16 (codes "A with A")) 6 33 layer.Rule
+  pub numbered_more : Numbered (behind_many 20 (codes "A with A")) 6 41 layer.Rule
+  -- behind 34 words, `A wiht A`, `A with ABCDEFGHIJKLM` and `A with`: their own faults and places, not the many words
+  pub late_wrong : Numbered (behind_many 17 (codes "A wiht A")) 3 223 layer.Text
+  pub late_name : Numbered (behind_many 17 (codes "A with ABCDEFGHIJKLM")) 4 228 layer.Text
+  pub late_early : Numbered (behind_many 17 (codes "A with")) 5 227 layer.Rule

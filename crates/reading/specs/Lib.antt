@@ -5,6 +5,7 @@ pub mod Spells
 pub mod Faults
 pub mod Answers
 pub mod Scan
+pub mod Laws
 pub mod Lexing
 pub mod Lengths
 pub mod Lines

@@ -1,5 +1,5 @@
 -- What is known of every line that is taken. Rests on Spells and on Names and Words of crate grammar.
-use Rattle.std.specs.Prelude.{◌≡◌, ℕ, List, [], length}
+use Rattle.std.specs.Prelude.{◌≡◌, ℕ, ◌≤◌, List, [], length}
 use Rattle.std.specs.List.{AllByRecursion}
 use Rattle.formula.specs.Formulas.{nodes_of}
 use Rattle.grammar.specs.declared.level.Level.TheVariants.{Rule}
@@ -16,9 +16,10 @@ use Rattle.reading.specs.Spells.{Spells}
 abbrev pub IsStored : Named → Type 0
 IsStored x = (n : List ℕ) × Decoded n × (x.name ≡ stored n)
 
--- A line that is taken has one node for each of its words, and its names in the order in which they first stand, each once.
+-- A line that is taken has 1 to 32 nodes, one for each of its words, and its names in the order in which they first stand, each once.
 pub record WellRead (bs : List ℕ) (l : Line) : Type 0 where
   pub nodes : (ts : List Token) (t : Phrase) → Spells bs ts → Is Rule ts t → length (nodes_of l.formula) ≡ words ts
+  pub bounds : (1 ≤ length (nodes_of l.formula)) × (length (nodes_of l.formula) ≤ 32)
   pub names : (ts : List Token) (t : Phrase) → Spells bs ts → Is Rule ts t → (said l).names ≡ listed [] (token_names ts)
   pub once : EachOnce (said l).names
   pub decoded : AllByRecursion IsStored (said l).names

@@ -3,6 +3,7 @@ ghost use Rattle.grammar.specs.Words.{is_word, words};
 ghost use Rattle.reading.specs.Answers.{Answer, Answers};
 ghost use Rattle.reading.specs.Reading.{reading, shown};
 ghost use Rattle.reading.specs.Lengths.{fitting};
+ghost use Rattle.reading.specs.Laws.{DecodedExactly};
 ghost use Rattle.reading.specs.Lines.{WellRead};
 
 use crate::fault::{RuleFault, TextFault};
@@ -46,12 +47,14 @@ fn count_words(tokens: &[Token]) -> usize
 /// What a line of a catalogue says, or why it is refused.
 ///
 /// Any bytes may come, and any number of them. The line is taken exactly when it spells a rule of the
-/// grammar within the bounds; otherwise its leftmost fault is the answer.
+/// grammar within the bounds; otherwise its leftmost fault is the answer. Names are decoded by the rule, which is
+/// computed rightly for any list of spellings.
 pub fn read(line: &[u8]) -> Result<Line, RuleFault>
     ensures exact { shown result ≡ reading line.now }
     ensures meaning { Answers line.now (shown result) }
     ensures well_read { IfOk result (λ l. WellRead line.now l) }
     ensures only { (x : Answer) → Answers line.now x → x ≡ shown result }
+    ensures spelling { DecodedExactly }
 {
     measure(line)?;
     let tokens = scan(line)?;

@@ -44,4 +44,13 @@ returns c = record {
   taken_10 = refl;
   taken_11 = refl;
   taken_deep = refl;
+  numbered_wrong = refl;
+  numbered_long = refl;
+  numbered_name = refl;
+  numbered_early = refl;
+  numbered_many = refl;
+  numbered_more = refl;
+  late_wrong = refl;
+  late_name = refl;
+  late_early = refl;
 }

@@ -1,4 +1,4 @@
-use Rattle.std.proofs.Common.{arith}
+use Rattle.std.proofs.Common.{arith, rules}
 use Rattle.reading.proofs.Naming.{next_some, stored_more, too_long, ends, next_none}
 use Rattle.reading.proofs.lexer.name.Goals as goal
 
@@ -11,7 +11,7 @@ loop-b-preserved c =
     stored_more c.in-Some.b c.in-Some.tail.now c.loop-b.invariant (next_some c.loop-b.rest.now c.in-Some.b c.in-Some.tail.now c.in-Some.ensures) c.if-decoded-ge-NAME_BYTES.false
 
 pub returns-clause-value : goal.returns-clause-value
-returns-clause-value c = ends c.loop-b.invariant c.in_default.ensures c.new.result c.new.ensures
+returns-clause-value c = ends c.loop-b.invariant c.in_default.ensures _ (search rules)
 
 pub overflow_sub-result : goal.overflow_sub-result
 overflow_sub-result c =
