@@ -4,7 +4,10 @@ use mathlib.Core.Bool.{false≢true}
 use Rattle.std.proofs.lemmas.Bool.{and_parts, or_parts, or_from, eqb-true, cond-true, cond-false}
 use Rattle.reading.specs.Bytes.{plain}
 use Rattle.reading.specs.Decoding.{starts, first_of, Runs, stops, itself, ampersand, reference}
-use Rattle.reading.specs.Laws.{DecodedExactly}
+use Rattle.grammar.specs.Names.{stored}
+use Rattle.grammar.specs.declared.name.Name.{Name}
+use Rattle.grammar.proofs.Padding.{pad_same}
+use Rattle.reading.specs.Laws.{DecodedExactly, StoredExactly}
 use Rattle.reading.specs.Scan.{behind, extra, decoded}
 use Rattle.reading.proofs.Tests.{unlike}
 
@@ -125,3 +128,7 @@ decoded_exactly sp bs r n = (there, back)
     back h =
         let d = decoded_runs sp bs 0 (omega arith) in
         subst (λ m. Runs sp bs r m) h.0 (subst (λ q. Runs sp bs q (decoded sp 0 bs).0) h.2 d.1)
+
+-- names are stored alike exactly when they are decoded alike
+pub stored_exactly : StoredExactly
+stored_exactly n m d f = (λ e. pad_same 12 n m d.few f.few d.no_zero f.no_zero (ap (λ (x : Name). x.bytes) e), λ e. ap stored e)

@@ -3,7 +3,7 @@ ghost use Rattle.grammar.specs.Words.{is_word, words};
 ghost use Rattle.reading.specs.Answers.{Answer, Answers};
 ghost use Rattle.reading.specs.Reading.{reading, shown};
 ghost use Rattle.reading.specs.Lengths.{fitting};
-ghost use Rattle.reading.specs.Laws.{DecodedExactly};
+ghost use Rattle.reading.specs.Laws.{DecodedExactly, StoredExactly};
 ghost use Rattle.reading.specs.Lines.{WellRead};
 
 use crate::fault::{RuleFault, TextFault};
@@ -55,6 +55,7 @@ pub fn read(line: &[u8]) -> Result<Line, RuleFault>
     ensures well_read { IfOk result (λ l. WellRead line.now l) }
     ensures only { (x : Answer) → Answers line.now x → x ≡ shown result }
     ensures spelling { DecodedExactly }
+    ensures names { StoredExactly }
 {
     measure(line)?;
     let tokens = scan(line)?;
