@@ -45,6 +45,9 @@ struct Printer<'a> {
 impl<S: Shown> Watch<S> for Printer<'_> {
     type Error = io::Error;
 
+    // what is printed no clause can say
+    ghost sees = { λ before _ _ after. after ≡ before };
+
     fn see(&mut self, searcher: &S) -> io::Result<()> {
         let name = searcher.name();
         let digits = Digits(searcher.values());
