@@ -87,7 +87,7 @@ impl Report {
 fn knows(names: &[Name], name: &Name) -> bool
     ensures { result ≡ has names.now name.now }
 {
-    names.contains(name)
+    names.iter().any(|known| known.is(name))
 }
 
 /// Keeps the names of a rule that are new.

@@ -1,12 +1,12 @@
 -- The truths of the nodes of a table are those of their trees over the atoms.
-use Rattle.std.proofs.Common.{◌≡◌, ℕ, zero, suc, ◌+◌, ◌<◌, Bool, true, false, cond, ltb, List, ◌++◌, length, get_or, Ok, Err, refl, ap, sym, ◌∙◌, arith}
-use Rattle.std.specs.Prelude.{is_ok}
+use Rattle.std.proofs.Common.{◌≡◌, ℕ, zero, suc, ◌+◌, ◌<◌, ◌≤◌, Bool, true, false, cond, ltb, List, ◌++◌, length, get_or, Ok, Err, refl, ap, sym, ◌∙◌, arith}
+use Rattle.std.specs.Prelude.{Result, is_ok, OnOk}
 use Rattle.std.proofs.lemmas.List.{get_or_default, get_or_append_left}
-use Rattle.std.proofs.lemmas.Bool.{false≢true}
+use Rattle.std.proofs.lemmas.Bool.{false≢true, and_from, le-leb}
 use Rattle.formula.specs.declared.evaluation.NotReady.TheVariants.{TooFewLeaves, TooLittleRoom, PartNotBefore}
 use Rattle.formula.specs.declared.node.Node.{Node}
 use Rattle.formula.specs.declared.node.Node.TheVariants.{Leaf, Not, And, Or, Then}
-use Rattle.formula.specs.Evaluation.{node_truths, all_below, parts_first, readiness, weighed}
+use Rattle.formula.specs.Evaluation.{node_truths, all_below, parts_first, ready, readiness, weighed}
 use Rattle.formula.specs.Ops.{Ops}
 use Rattle.formula.specs.Parts.{parts}
 use Rattle.formula.specs.Table.{shape, trees}
@@ -54,3 +54,12 @@ ready_first ns leaves room r h = the_last (ltb leaves (length ns)) (ltb room (le
     the_last false true first e = absurd (false≢true (ap is_ok e))
     the_last false false true e = refl
     the_last false false false e = absurd (false≢true (ap is_ok e))
+
+-- there is a leaf truth and room for each node of a table, and parts stand before the whole
+pub ready_for : {A : Type 0} (ns : List (Node A)) (leaves room : ℕ) → length ns ≤ leaves → length ns ≤ room → parts_first 0 ns ≡ true → ready ns leaves room ≡ true
+ready_for ns leaves room h l f = and_from _ _ (and_from _ _ (le-leb (length ns) leaves h) (le-leb (length ns) room l)) f
+
+-- what holds of a right answer holds where the answer is right
+pub where_ok : {T E P : Type 0} (r : Result T E) → is_ok r ≡ true → OnOk r P → P
+where_ok (Ok x) e h = h
+where_ok (Err x) e h = absurd (false≢true e)

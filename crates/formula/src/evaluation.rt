@@ -45,14 +45,14 @@ fn weigh<S: Scale + Copy, L: Copy>(node: Node<L>, leaf: S, truths: &[S]) -> S
 }
 
 // Writes the truth of each node, from the first on.
-pub(crate) fn fill<S: Scale + Copy, L: Copy>(table: &Table<L>, leaves: &[S], truths: &mut [S])
+fn fill<S: Scale + Copy, L: Copy>(table: &Table<L>, leaves: &[S], truths: &mut [S])
     requires known { length table.now.nodes.now ≤ length leaves.now }
     requires room { length table.now.nodes.now ≤ length truths.old }
     ensures { truths.new ≡ node_truths S.ops S.blank table.now.nodes.now leaves.now ++ drop (length table.now.nodes.now) truths.old }
 {
     let nodes = table.nodes;
-    for (i, node) in nodes.iter().enumerate() {
-        truths[i] = weigh(*node, leaves[i], truths);
+    for i in 0..nodes.len() {
+        truths[i] = weigh(nodes[i], leaves[i], truths);
     }
 }
 

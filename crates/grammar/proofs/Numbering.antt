@@ -28,6 +28,14 @@ find_none n ns e = go (ltb (find n ns) (length ns)) refl e
     go true f g = absurd (let z : ⊥ = cc in z)
     go false f g = omega (arith, find_most n ns, ltb-false _ _ f)
 
+-- at most one name more
+pub enlist_length : (ns : List Named) (x : Named) → length (enlist ns x) ≤ length ns + 1
+enlist_length ns x = go (ltb (find x.name ns) (length ns))
+  where
+    go : (t : Bool) → length (cond t ns (ns ++ x ∷ [])) ≤ length ns + 1
+    go true = omega arith
+    go false = omega (arith, length-append ns (x ∷ []))
+
 find_more : (n : Name) (ns more : List Named) → Has ns n → find n (ns ++ more) ≡ find n ns
 find_more n ns more h = prefix_len-append (λ x. not (is_named n x)) ns more ∙ cond-false _ _ _ (ne_eqb _ _ (λ (e : find n ns ≡ length ns). let z : ⊥ = omega arith in z))
 

@@ -32,12 +32,12 @@ impl Name {
         &self.bytes
     }
 
-    /// Whether it is the same name, which is what `==` tests: so it is exactly when the decoded bytes are equal.
+    /// Whether it is the same name: the one test of names. It says so exactly when the decoded bytes are equal.
     #[tactic(auto, using(crate::proofs::Padding::same_stored))]
     pub fn is(&self, other: &Name) -> bool
         ensures value { result ≡ same self.now.bytes other.now.bytes }
         ensures decoded { (n m : List ℕ) → Decoded n → Decoded m → self.now ≡ stored n → other.now ≡ stored m → (result ≡ true) ↔ (n ≡ m) }
     {
-        self == other
+        self.bytes() == other.bytes()
     }
 }

@@ -1,13 +1,14 @@
 -- What a table of records says of the pairs.
 use Rattle.std.proofs.lemmas.Bool.Decides.{nat_tests}
-use Rattle.std.proofs.Common.{◌≡◌, ℕ, zero, suc, ◌*◌, ◌<◌, Bool, true, false, List, [], ◌∷◌, length, get_or, drop, refl, ap, ◌∙◌, arith, length-append, length-drop}
-use Rattle.std.proofs.lemmas.List.{get_or_append_left, drop_at}
+use Rattle.std.proofs.Common.{◌≡◌, ℕ, zero, suc, ◌*◌, ◌<◌, ◌≤◌, Bool, true, false, not, ◌&&◌, eqb, List, [], ◌∷◌, length, get_or, drop, refl, ap, ◌∙◌, arith, length-append, length-drop}
+use Rattle.std.proofs.lemmas.Bool.{and_right}
+use Rattle.std.proofs.lemmas.List.{get_or_append_left, get_or_past, drop_at}
 use Rattle.formula.specs.declared.node.Pair.{Pair}
 use Rattle.formula.specs.Tree.{Tree}
 use Rattle.graph.specs.declared.link.Link.{Link}
 use Rattle.graph.specs.Filling.{Pick, start, links}
 use Rattle.graph.specs.InForce.{of_lots}
-use Rattle.graph.specs.Lots.{lots}
+use Rattle.graph.specs.Lots.{is_lot, lots}
 use Rattle.graph.specs.Marks.{Marks, dashed, solid}
 use Rattle.graph.specs.Numbering.{after, numbers, variable}
 use Rattle.graph.specs.Pairs.{IsPair, place, count_of_pairs, pairs, OfPairs}
@@ -36,6 +37,10 @@ module _ (n : ℕ) (flag : Link → Bool) (ls : List Link) where
   -- at a pair it is the flag of its record
   pub flag_at : (a b : ℕ) → IsPair n a b → flagged n flag ls a b ≡ read (place a b)
   flag_at a b (p, q, r) = grind (arith, nat_tests)
+
+-- a pair whose record lies behind the table has no flag that the empty record lacks
+pub past_table : (n : ℕ) (flag : Link → Bool) (ls : List Link) (a b : ℕ) → flag no_link ≡ false → length ls ≤ place_of a b → flagged n flag ls a b ≡ false
+past_table n flag ls a b e h = and_right (is_lot n a && is_lot n b) _ (and_right (not (eqb a b)) _ (ap flag (get_or_past ls (place_of a b) no_link h) ∙ e))
 
 -- a flag of any table is a test of pairs
 pub flagged_pairs : (n : ℕ) (flag : Link → Bool) (ls : List Link) → OfPairs n (flagged n flag ls)

@@ -1,5 +1,5 @@
 -- Lists with one item changed.
-use Rattle.std.proofs.Common.{◌≡◌, ℕ, zero, suc, ◌≢◌, List, [], ◌∷◌, map, get_or, set, Some, None, sym, refl, ap, ◌∙◌, arith}
+use Rattle.std.proofs.Common.{◌≡◌, ℕ, zero, suc, ◌≢◌, List, [], ◌∷◌, map, length, get_or, take, set, Some, None, sym, refl, ap, ◌∙◌, arith}
 use Rattle.std.specs.List.{slice_get}
 use Rattle.rules.specs.Items.{item, altered, altered_item}
 
@@ -7,6 +7,18 @@ pub set_altered : {A : Type 0} (f : A → A) (xs : List A) (i : ℕ) (d : A) →
 set_altered f [] i d = refl
 set_altered f (x ∷ xs) zero d = refl
 set_altered f (x ∷ xs) (suc i) d = ap (λ ys. x ∷ ys) (set_altered f xs i d)
+
+module _ {A : Type 0} (f : A → A) where
+  pub length_altered : (i : ℕ) (xs : List A) → length (altered f i xs) ≡ length xs
+  length_altered i [] = refl
+  length_altered zero (x ∷ xs) = refl
+  length_altered (suc i) (x ∷ xs) = ap suc (length_altered i xs)
+
+  pub take_altered : (n i : ℕ) (xs : List A) → take n (altered f i xs) ≡ altered f i (take n xs)
+  take_altered zero i xs = refl
+  take_altered (suc n) i [] = refl
+  take_altered (suc n) zero (x ∷ xs) = refl
+  take_altered (suc n) (suc i) (x ∷ xs) = ap (λ ys. x ∷ ys) (take_altered n i xs)
 
 -- a change that shows in what is told of an item
 pub map_altered : {A B : Type 0} (g : A → B) (f : A → A) (h : B → B) → ((x : A) → g (f x) ≡ h (g x))

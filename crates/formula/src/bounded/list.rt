@@ -36,10 +36,10 @@ impl<T: Copy, const N: usize> Bounded<T, N> {
         ensures at { result ≡ length (held self.old) }
         ensures more { held self.new ≡ held self.old ++ (item ∷ List.[]) }
     {
-        let at = self.count;
-        self.items[at] = item;
-        self.count = at + 1;
-        at
+        let end = self.count;
+        self.items[end] = item;
+        self.count = end + 1;
+        end
     }
 
     /// Hands one item over to be changed, and writes it back.

@@ -35,7 +35,7 @@ impl Formula {
         ensures { result.nodes.now ≡ nodes_of self.now }
     {
         Table {
-            nodes: self.nodes.items(),
+            nodes: self.nodes(),
         }
     }
 
@@ -46,6 +46,6 @@ impl Formula {
         ensures first { parts_first 0 result.now ≡ true }
         ensures places { spans pair_place 0 512 (formula_tree self.now) ≡ true }
     {
-        self.table().nodes
+        self.nodes.items()
     }
 }

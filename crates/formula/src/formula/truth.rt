@@ -6,7 +6,7 @@ ghost use Rattle.formula.specs.Tests.{Computes};
 ghost use Rattle.formula.specs.Truth.{truth};
 ghost use Rattle.formula.specs.TruthLaws.{LeafTruths};
 
-use crate::evaluation::fill;
+use crate::evaluation::evaluate;
 use crate::formula::Formula;
 use crate::node::{MAX_NODES, Node, Pair};
 
@@ -36,10 +36,11 @@ impl Formula {
         ensures { (v : PairOf ℕ → Bool) → Computes (F.post is_true) v → result ≡ truth two v (formula_tree self.now) }
     {
         let last = self.len() - 1;
-        let table = self.table();
-        let leaves = leaf_truths(table.nodes, is_true);
+        let nodes = self.nodes();
+        let leaves = leaf_truths(nodes, is_true);
         let mut truths = [false; MAX_NODES];
-        fill(&table, &leaves, &mut truths);
+        // It answers Ok: a formula's parts stand before the whole, and there is a leaf truth and room for each node.
+        let _ = evaluate(nodes, &leaves, &mut truths);
         truths[last]
     }
 }

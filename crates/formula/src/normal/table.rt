@@ -17,7 +17,7 @@ impl NormalForm {
         ensures { result.nodes.now ≡ normal_nodes self.now }
     {
         Table {
-            nodes: self.nodes.items(),
+            nodes: self.nodes(),
         }
     }
 
@@ -30,6 +30,6 @@ impl NormalForm {
         ensures plain { all_plain result.now ≡ true }
         ensures form { InNormalForm (normal_tree self.now) }
     {
-        self.table().nodes
+        self.nodes.items()
     }
 }

@@ -14,7 +14,7 @@ use formula::node::{Node, Pair};
 fn number_in(names: &[Named], name: Name) -> Option<usize>
     ensures { result ≡ position (is_named name) names.now }
 {
-    names.iter().position(|known| known.name == name)
+    names.iter().position(|known| known.name.is(&name))
 }
 
 /// The number of a name, which is added where it does not stand yet.

@@ -1,5 +1,6 @@
 use Rattle.std.proofs.Common.{◌≡◌, suc, ◌*◌, ◌≤◌, true, length, sym, ap, ◌∙◌, subst, arith, rules}
-use Rattle.std.proofs.lemmas.List.{length-take}
+use Rattle.std.proofs.lemmas.List.{length-take, take_all}
+use Rattle.formula.specs.Evaluation.{parts_first}
 use Rattle.formula.specs.declared.normal.NormalForm.{NormalForm}
 use Rattle.formula.specs.LiteralTable.{all_plain}
 use Rattle.formula.specs.NormalForms.{normal_nodes, normal_tree}
@@ -9,7 +10,7 @@ use Rattle.formula.specs.Words.{words}
 use Rattle.formula.proofs.Growth.{post_length}
 use Rattle.formula.proofs.Monotony.{monotone}
 use Rattle.formula.proofs.NormalTrees.{few_words, normal_size}
-use Rattle.formula.proofs.Parenthood.{one_tree}
+use Rattle.formula.proofs.Parenthood.{one_tree, post_first}
 use Rattle.formula.proofs.PlainTables.{post_plain}
 use Rattle.formula.proofs.normal.NormalForm.nodes.Goals as goal
 
@@ -24,15 +25,17 @@ pub returns : goal.returns
 returns c =
     let f = c.args.self.now in
     record {
-      items = search rules;
-      tree = subst OneTree (f.whole ∙ sym (search rules)) (one_tree (normal_tree f));
-      first = c.table.result.first;
+      items = search (rules, take_all);
+      tree = subst OneTree (f.whole ∙ sym (search (rules, take_all))) (one_tree (normal_tree f));
+      first =
+          (let first : parts_first 0 (normal_nodes f) ≡ true = ap (parts_first 0) (sym f.whole) ∙ post_first (normal_tree f) in
+          search (rules, take_all));
       count =
           (let exact : length (normal_nodes f) ≡ suc (2 * words (normal_tree f)) = (nodes_count f).0 ∙ normal_size (normal_tree f) f.normal in
-          search rules);
+          search (rules, take_all));
       plain =
           (let plain : all_plain (normal_nodes f) ≡ true = ap all_plain (sym f.whole) ∙ post_plain 0 (normal_tree f) ∙ f.normal in
-          search rules);
+          search (rules, take_all));
       form = record {
         only = f.normal;
         places = f.in_order;
