@@ -44,3 +44,6 @@ pub last_from : (bs : List Bool) (o : Option ℕ) → (o ≡ None → (k : ℕ) 
     → ((i : ℕ) → o ≡ Some i → (i < length bs) × (get_or bs i false ≡ false) × ((k : ℕ) → i < k → k < length bs → get_or bs k false ≡ true)) → o ≡ last_false bs
 last_from bs None none found = last_same bs None (last_false bs) (none refl) (last_told bs)
 last_from bs (Some i) none found = last_same bs (Some i) (last_false bs) (found i refl) (last_told bs)
+
+pub last_within : (bs : List Bool) (i : ℕ) → last_false bs ≡ Some i → i < length bs
+last_within bs i e = (subst (Last bs) e (last_told bs)).0

@@ -1,5 +1,5 @@
 -- What counter and walker hold, how a step ends, and a run of either. Rests on Limits.
-use Rattle.std.specs.Prelude.{ℕ, zero, suc, ◌+◌, Bool, true, false, cond, ◌&&◌, List, [], ◌∷◌, ◌++◌, take, Some, None, Option, nat_lt}
+use Rattle.std.specs.Prelude.{ℕ, zero, suc, ◌+◌, Bool, true, false, cond, ◌&&◌, List, [], ◌∷◌, ◌++◌, take, length, Some, None, Option, nat_lt}
 use Rattle.std.specs.Bool.{beq}
 use Rattle.search.specs.Limits.{age_limit}
 use Rattle.search.specs.declared.status.Status.{Status}
@@ -58,6 +58,11 @@ unfoldable pub filled : ℕ → List Bool → List Bool
 filled zero values = values
 filled (suc n) [] = false ∷ filled n []
 filled (suc n) (b ∷ bs) = b ∷ filled n bs
+
+-- the last false turned to true and what comes after it to false, where there is one
+abbrev pub counted : List Bool → Option ℕ → List Bool
+counted values (Some i) = filled (length values) (cut values i)
+counted values None = values
 
 abbrev pub is_working : Status → Bool
 is_working Working = true

@@ -3,7 +3,7 @@ ghost use Rattle.std.specs.Prelude.{◌≡◌, ◌<◌, ◌≤◌, ◌&&◌, ◌
 ghost use Rattle.clauses.specs.Meaning.{assigned};
 ghost use Rattle.search.specs.Limits.{capped};
 ghost use Rattle.search.specs.Searching.{is_found};
-ghost use Rattle.search.specs.States.{fresh, last_false, filled, turned, with_values, with_status, with_age};
+ghost use Rattle.search.specs.States.{fresh, last_false, filled, turned, counted, with_values, with_status, with_age};
 
 use crate::limits::MAX_VARIABLES;
 use crate::status::Status;
@@ -129,16 +129,23 @@ impl Held {
         self.values.push(false);
     }
 
-    // Gives each variable without a value the value false.
-    #[tactic(auto, using(crate::proofs::Fills::filled_same, crate::proofs::Fills::filled_push, crate::proofs::Fills::length_filled))]
+    // Turns the last false to true and the trues after it to false, where there is a false: in place, since that is most of a counter's step.
+    pub(crate) fn count_up(&mut self) -> bool
+        ensures counted { self.new ≡ with_values self.old (counted self.old.values (last_false self.old.values)) }
+        ensures was { result ≡ is_some (last_false self.old.values) }
+    {
+        count_up(&mut self.values)
+    }
+
+    // Gives each variable without a value the value false, all of them at once.
+    #[tactic(auto, using(crate::proofs::Fills::filled_taken, crate::proofs::Fills::length_filled))]
     pub(crate) fn fill(&mut self)
         ensures filled { self.new ≡ with_values self.old (filled self.old.variables self.old.values) }
         ensures whole { length self.new.values ≡ self.new.variables }
     {
-        let values = &mut self.values;
-        for _ in values.len()..self.variables {
-            values.push(false);
-        }
+        let missing = self.variables - self.values.len();
+        let falses = [false; MAX_VARIABLES];
+        let _ = self.values.try_extend_from_slice(&falses[..missing]); // they fit
     }
 
     // What is shown of a variable: its value, when found and within the variables.
@@ -152,6 +159,19 @@ impl Held {
             _ => None,
         }
     }
+}
+
+// Turns the last false to true and the trues after it to false, where there is a false.
+fn count_up(values: &mut [bool]) -> bool
+    ensures counted { values.new ≡ counted values.old (last_false values.old) }
+    ensures was { result ≡ is_some (last_false values.old) }
+{
+    let last = last_false(values);
+    if let Some(index) = last {
+        values[index] = true;
+        values[index + 1..].fill(false);
+    }
+    last.is_some()
 }
 
 // The index of the last false.

@@ -23,15 +23,12 @@ impl Counter {
     }
 
     // On to the next assignment, variable 1 changing slowest; after the one that is all true, the search ends with none.
-    #[tactic(auto, using(crate::proofs::Fills::length_filled))]
+    #[tactic(auto, using(crate::proofs::Fills::length_counted))]
     fn advance(&mut self)
         ensures { older (counter_state self.new) ≡ counter_next (counter_state self.old) (last_false (counter_state self.old).values) }
     {
-        let held = &mut self.held; // one loan, since a counter is whole only when every variable has a value again
-        if held.turn() {
-            held.fill();
-        } else {
-            held.set_status(Status::Refuted);
+        if !self.held.count_up() {
+            self.held.set_status(Status::Refuted);
         }
     }
 }
